@@ -1,0 +1,144 @@
+-- What reading amounts with their book says: a readable book, n and m as the book has them, and one amount for each lot and call, all
+-- within the limit; and amounts with all this are read. A refusal says what its line of the table says, those before it not applying.
+use mathlib.Core.Path.{_≡_, refl, _∙_, ap}
+use mathlib.Core.Bool.{Bool, not, _&&_}
+use mathlib.Core.List.{List, []}
+use Prim.Native.Nat.{ℕ, _+_, _*_, _≤_, _<_}
+use native.Mathlib.Omega.{arith}
+use lib.Dec.{T, ltb, leb, eqb, ltb→lt, nltb→le, leb→le, nleb→lt, eqb→eq, eqb-refl, T-not, not-T}
+use lib.ListN.{length}
+use Rattle.transport.specs.Problem.{Within}
+use Rattle.transport.specs.Finder.{every}
+use Rattle.transport.proofs.Laws.Tests.{and-says, and-of}
+use Rattle.transport.proofs.Laws.Searches.{every-says, every-fails}
+use Rattle.specification.specs.Reply.{gives, refuses, Size}
+use Rattle.specification.specs.Bytes.{byteAt, amountsMark}
+use Rattle.specification.specs.Book.{bookLots, bookCalls, problemOf}
+use Rattle.specification.specs.Amounts.{amountLimit, amountAt, lotAmount, callAmount, readAmountsOf, readAmounts}
+use Rattle.specification.proofs.Replies.{
+  Says,
+  giving,
+  said-of-given,
+  said-of-refused,
+  gives-if-never-refused,
+  gives-less,
+  refuses-less,
+  says-then,
+  says-unless,
+  test-of-twice-not,
+}
+use Rattle.specification.proofs.Books.{
+  Opened,
+  OpeningRefused,
+  opening-says,
+  opened-not-refused,
+  BookRead,
+  BookRefused,
+  book-says,
+  book-reads,
+}
+
+pub record AmountsRead (size : Size) (s : List ℕ) : Type 0 where
+  pub opened : Opened amountsMark s
+  pub same-lots : byteAt s 5 ≡ size .lots
+  pub same-calls : byteAt s 6 ≡ size .calls
+  pub whole : length s ≡ 7 + 4 * (size .lots + size .calls)
+  pub within : (k : ℕ) → k < size .lots + size .calls → amountAt s k ≤ amountLimit
+
+-- its opening, and n and m as the book has them
+pub record Alike (size : Size) (s : List ℕ) : Type 0 where
+  pub opened : Opened amountsMark s
+  pub same-lots : byteAt s 5 ≡ size .lots
+  pub same-calls : byteAt s 6 ≡ size .calls
+
+-- 1, 2, 3, 15, 6, 8, 16, each where those before it do not apply
+pub data AmountsRefused (size : Size) (s : List ℕ) : ℕ → List ℕ → Type 0 where
+  amounts-opening : {k : ℕ} {vs : List ℕ} → OpeningRefused amountsMark s k vs → AmountsRefused size s k vs
+  counts-differ : Opened amountsMark s → ((byteAt s 5 ≡ size .lots) × (byteAt s 6 ≡ size .calls) → ⊥) → AmountsRefused size s 15 []
+  amounts-end-early : Alike size s → length s < 7 + 4 * (size .lots + size .calls) → AmountsRefused size s 6 []
+  amounts-bytes-after : Alike size s → 7 + 4 * (size .lots + size .calls) < length s → AmountsRefused size s 8 []
+  amount-too-high : Alike size s → length s ≡ 7 + 4 * (size .lots + size .calls)
+      → (k : ℕ) → k < size .lots + size .calls → amountLimit < amountAt s k → AmountsRefused size s 16 []
+
+amounts-of-say : (size : Size) (s : List ℕ) → Says (λ n. (n ≡ size) × AmountsRead size s) (AmountsRefused size s) (readAmountsOf size s)
+unfolding readAmountsOf
+amounts-of-say size s =
+    let count : ℕ = size .lots + size .calls in
+    let same-lots : Bool = eqb (byteAt s 5) (size .lots) in
+    let same-calls : Bool = eqb (byteAt s 6) (size .calls) in
+    let all-within : Bool = every count (λ k. leb (amountAt s k) amountLimit) in
+    says-then _ (opening-says amountsMark s) (λ k vs. amounts-opening) (λ _ opened.
+    let same-if : (byteAt s 5 ≡ size .lots) × (byteAt s 6 ≡ size .calls) → T (same-lots && same-calls) = λ (n, m).
+    and-of same-lots same-calls (rw n (eqb-refl (size .lots))) (rw m (eqb-refl (size .calls))) in
+    let both : Bool = same-lots && same-calls in
+    says-unless (not both) 15 _ _ (λ t. counts-differ opened (λ e. T-not both t (same-if e))) (λ same.
+    let (lots, calls) = and-says same-lots same-calls (test-of-twice-not both same) in
+    let alike : Alike size s = record {
+      opened = opened;
+      same-lots = eqb→eq (byteAt s 5) (size .lots) lots;
+      same-calls = eqb→eq (byteAt s 6) (size .calls) calls;
+    } in
+    says-unless (ltb (length s) (7 + 4 * count)) 6 _ _ (λ t. amounts-end-early alike (ltb→lt _ _ t)) (λ long.
+    says-unless (ltb (7 + 4 * count) (length s)) 8 _ _ (λ t. amounts-bytes-after alike (ltb→lt _ _ t)) (λ short.
+    let whole : length s ≡ 7 + 4 * count = omega (arith, nltb→le) in
+    says-unless (not all-within) 16 _ _ (λ t.
+    let (k, h, high) = every-fails count _ (T-not all-within t) in
+    amount-too-high alike whole k h (nleb→lt (amountAt s k) amountLimit (not-T (leb (amountAt s k) amountLimit) high))) (λ low.
+    giving (
+      refl,
+      record {
+        opened = opened;
+        same-lots = alike .same-lots;
+        same-calls = alike .same-calls;
+        whole = whole;
+        within = λ k h. leb→le (amountAt s k) amountLimit (every-says count _ (test-of-twice-not all-within low) k h);
+      },
+    ))))))
+
+-- none of these applies to amounts that say what read ones say
+amounts-read-not-refused : {size : Size} {s : List ℕ} {k : ℕ} {vs : List ℕ} → AmountsRead size s → AmountsRefused size s k vs → ⊥
+amounts-read-not-refused read (amounts-opening q) = opened-not-refused (read .opened) q
+amounts-read-not-refused read (counts-differ opened differ) = differ (read .same-lots, read .same-calls)
+amounts-read-not-refused read (amounts-end-early alike h) = omega (arith, read .whole)
+amounts-read-not-refused read (amounts-bytes-after alike h) = omega (arith, read .whole)
+amounts-read-not-refused read (amount-too-high alike whole k h high) = omega (arith, read .within k h)
+
+-- refused for the book, or with a readable book for themselves
+pub data AmountsOrBookRefused (book s : List ℕ) : ℕ → List ℕ → Type 0 where
+  amounts-book : {k : ℕ} {vs : List ℕ} → BookRefused book k vs → AmountsOrBookRefused book s k vs
+  amounts-own : {n : Size} {k : ℕ} {vs : List ℕ} → BookRead book n → AmountsRefused n s k vs → AmountsOrBookRefused book s k vs
+
+pub amounts-say : (book s : List ℕ) → Says (λ n. BookRead book n × AmountsRead n s) (AmountsOrBookRefused book s) (readAmounts book s)
+unfolding readAmounts
+amounts-say book s =
+    says-then _ (book-says book) (λ k vs. amounts-book) (λ n read.
+    refuses-less (gives-less (amounts-of-say n s) (λ m (e, amounts). rw e (read, amounts))) (λ k vs. amounts-own read))
+
+pub amounts-read : (book s : List ℕ) (n : Size) → readAmounts book s ≡ gives n → BookRead book n × AmountsRead n s
+amounts-read book s n e = said-of-given (amounts-say book s) n e
+
+-- refused amounts: what the number says
+pub amounts-refused : (book s : List ℕ) (k : ℕ) (vs : List ℕ) → readAmounts book s ≡ refuses k vs → AmountsOrBookRefused book s k vs
+amounts-refused book s k vs e = said-of-refused (amounts-say book s) k vs e
+
+pub amounts-reads : (book s : List ℕ) (n : Size) → BookRead book n → AmountsRead n s → readAmounts book s ≡ gives n
+unfolding readAmounts
+amounts-reads book s n read amounts =
+    let (m, (e, _), own) = gives-if-never-refused (amounts-of-say n s) (λ k vs. amounts-read-not-refused amounts) in
+    rw (book-reads book n read) (own ∙ ap gives e)
+
+module _ {book s : List ℕ} {n : Size} (read : BookRead book n) (amounts : AmountsRead n s) where
+  same-sizes : (n .lots ≡ bookLots book) × (n .calls ≡ bookCalls book)
+  same-sizes = (ap (λ m. m .lots) (read .sizes), ap (λ m. m .calls) (read .sizes))
+
+  -- amounts that are read are within the limits
+  pub amounts-within : Within amountLimit (problemOf book) (lotAmount s) (callAmount book s)
+  unfolding problemOf
+  amounts-within = record {
+    lots-within = λ i h. amounts .within i (omega (arith, same-sizes));
+    calls-within = λ j h. amounts .within (bookLots book + j) (omega (arith, same-sizes));
+  }
+
+  -- and their file has at most 7 + 4 * 64 bytes
+  pub amounts-length : length s ≤ 263
+  amounts-length = omega (arith, amounts .whole, read .lots-within, read .calls-within, same-sizes)

@@ -1,0 +1,70 @@
+-- How large the answer of a run can be: a lot gives no more than its amount, so there are at most 32,000,000,000 units, and a unit costs at
+-- most 1,000,000. So 64 bits hold units and cost, and no number that is printed has more than 17 digits.
+use mathlib.Core.Path.{_≡_, sym, _∙_}
+use mathlib.Core.Logic.{by-cases}
+use mathlib.Core.List.{List}
+use Prim.Native.Nat.{ℕ, _*_, _≤_}
+use native.Mathlib.Nat.{mul-le-mul-left}
+use native.Mathlib.Omega.{arith}
+use Rattle.transport.specs.Problem.{Problem, Eligible, sum, lotSum, units, totalCost, Allocation, Within}
+use Rattle.transport.proofs.Laws.Sums.{sum-mono, sum-cong, sum-le, sum-scale}
+use Rattle.transport.proofs.Laws.Sets.{eligible?}
+use Rattle.transport.proofs.Orders.Lists.{lists-of-order}
+use Rattle.transport.proofs.Greedy.Given.{greedy-allocation}
+use Rattle.specification.specs.Reply.{gives, Outcome}
+use Rattle.specification.specs.Book.{costLimit, problemOf}
+use Rattle.specification.specs.Amounts.{amountLimit, lotAmount, callAmount}
+use Rattle.specification.specs.OrderFile.{orderFile}
+use Rattle.specification.specs.Run.{runOrder}
+use Rattle.specification.specs.Find.{findAndRun}
+use Rattle.specification.proofs.Replies.{said-of-given}
+use Rattle.specification.proofs.Books.{problem-within, cost-within}
+use Rattle.specification.proofs.AmountsFiles.{amounts-within}
+use Rattle.specification.proofs.Runs.{run-says}
+use Rattle.specification.proofs.FindRuns.{find-and-run-says, find-and-run-is-run}
+
+module _ (P : Problem) (lots : P .lots ≤ 32) (costs : (i j : ℕ) → Eligible P i j → P .cost i j ≤ costLimit)
+    (a b : ℕ → ℕ) (within : Within amountLimit P a b) (x : ℕ → ℕ → ℕ) (allocation : Allocation P a b x) where
+  pub units-within : units P x ≤ 32 * amountLimit
+  units-within = omega (
+    arith,
+    sum-le (P .lots) amountLimit (lotSum P x) (λ i h. omega (arith, allocation .lot-within i h, within .lots-within i h)),
+  )
+
+  -- a pair's units cost at most the limit each
+  cell-within : (i j : ℕ) → x i j * P .cost i j ≤ costLimit * x i j
+  cell-within i j = by-cases (eligible? P i j)
+      (λ eligible. omega (arith, mul-le-mul-left (x i j) (costs i j eligible)))
+      (λ never. let none = allocation .eligible-only i j never in rw none (omega arith))
+
+  pub total-cost-within : totalCost P x ≤ 32 * amountLimit * costLimit
+  total-cost-within =
+      let row : ℕ → ℕ = λ i. sum (P .calls) (λ j. costLimit * x i j) in
+      omega (
+        arith,
+        units-within,
+        sum-mono (P .lots) (λ i. sum (P .calls) (λ j. x i j * P .cost i j)) row (λ i h. sum-mono (P .calls) _ _ (λ j g. cell-within i j)),
+        sum-cong (P .lots) row (λ i. costLimit * lotSum P x i) (λ i h. sum-scale (P .calls) costLimit (x i)),
+        sum-scale (P .lots) costLimit (lotSum P x),
+      )
+
+-- units and cost of an answer that is no refusal
+abbrev Small : Outcome → Type 0
+Small o = (o .units ≤ 32 * amountLimit) × (o .cost ≤ 32 * amountLimit * costLimit)
+
+pub run-within : (book order amounts flow : List ℕ) (o : Outcome) → runOrder book order amounts flow ≡ gives o → Small o
+run-within book order amounts flow o e =
+    let gave = said-of-given (run-says book order amounts flow) o e in
+    let (n, read, amounts-are) = gave .read in
+    let P : Problem = problemOf book in
+    let allocation = greedy-allocation (lists-of-order (gave .passing .each-once)) (lotAmount amounts) (callAmount book amounts) in
+    let within = amounts-within read amounts-are in
+    rw (gave .outcome-is) (
+      units-within P (problem-within read .1) (cost-within read) (lotAmount amounts) (callAmount book amounts) within _ allocation,
+      total-cost-within P (problem-within read .1) (cost-within read) (lotAmount amounts) (callAmount book amounts) within _ allocation,
+    )
+
+pub find-and-run-within : (book amounts flow : List ℕ) (o : Outcome) → findAndRun book amounts flow ≡ gives o → Small o
+find-and-run-within book amounts flow o e =
+    let (S, found, _) = said-of-given (find-and-run-says book amounts flow) o e in
+    run-within book (orderFile S) amounts flow o (sym (find-and-run-is-run book amounts flow S found .0) ∙ e)

@@ -1,0 +1,143 @@
+-- The three demands, each put together from what the other files say of the entry points. Demand 3 rests on three theorems on all
+-- problems: a Monge sequence is a good order, a good order is a Monge sequence, and the finder finds a Monge sequence where there is one.
+use mathlib.Core.Path.{_≡_, refl, _∙_, ap, subst}
+use mathlib.Core.Logic.{_⊎_, inl, inr}
+use mathlib.Core.List.{List, []}
+use mathlib.Core.Option.{some, none}
+use Prim.Native.Nat.{ℕ, _≤_}
+use native.Mathlib.Omega.{arith}
+use lib.Dec.{ltb, ltb→lt, lit≤}
+use lib.ListN.{length, take}
+use Rattle.transport.specs.Greedy.{Pair}
+use Rattle.transport.specs.Finder.{find, size}
+use Rattle.transport.proofs.Laws.Tests.{T-false}
+use Rattle.transport.proofs.Orders.Length.{order-length}
+use Rattle.transport.proofs.Greedy.Optimal.{good-of-monge}
+use Rattle.transport.proofs.Greedy.Converse.{monge-of-good}
+use Rattle.transport.proofs.Finder.Find.{find-is-order, find-is-monge, find-none}
+use Rattle.specification.specs.Reply.{Reply, gives, refuses}
+use Rattle.specification.specs.Book.{problemOf, lotCosts}
+use Rattle.specification.specs.Amounts.{amountLimit}
+use Rattle.specification.specs.OrderFile.{orderCount}
+use Rattle.specification.specs.Run.{runFlow}
+use Rattle.specification.specs.Find.{orderLength, foundOrder, findOrder, findBuffer, foundToRun, findAndRun, findAndRunFlow}
+use Rattle.specification.specs.Demands.{InTable, Answered, Demand1, Readable, Passing, Demand2, GoodOrder, ByReturned, Demand3}
+use Rattle.specification.proofs.Replies.{
+  Says,
+  giving,
+  refusing,
+  not-both,
+  refused-before,
+  by-reply,
+  gives-if-never-refused,
+  refused-if-never-given,
+}
+use Rattle.specification.proofs.Books.{book-says, book-reads, book-limits}
+use Rattle.specification.proofs.AmountsFiles.{amounts-say, amounts-read, amounts-within}
+use Rattle.specification.proofs.LotCosts.{lot-cost-at}
+use Rattle.specification.proofs.Lines.{book-in-table, amounts-in-table}
+use Rattle.specification.proofs.Checks.{check-says, check-in-table, check-passes, check-passes-only}
+use Rattle.specification.proofs.OrderFiles.{count-back, order-back, order-file-shaped}
+use Rattle.specification.proofs.Runs.{run-says, run-in-table, ran, by-passing}
+use Rattle.specification.proofs.Finds.{
+  FindRefused,
+  of-book,
+  buffer-too-short,
+  no-order,
+  find-says,
+  found-passes,
+  written,
+  find-in-table,
+}
+use Rattle.specification.proofs.FindRuns.{find-run-in-table, find-and-run-says, find-and-run-is-run}
+use Rattle.specification.proofs.Texts.{printed-ends}
+
+-- Demand 1. A reply is answered if its refusals have numbers of the table, and leave the buffer as it was.
+answered : {A : Type 0} {G : A → Type 0} {Q : ℕ → List ℕ → Type 0} {r : Reply A} (before after : List ℕ) → Says G Q r
+    → ((k : ℕ) (vs : List ℕ) → Q k vs → InTable k vs) → ((k : ℕ) (vs : List ℕ) → r ≡ refuses k vs → after ≡ before)
+    → Answered r before after
+answered before after (giving g) numbers left = tt
+answered before after (refusing {k} {vs} q) numbers left = (numbers k vs q, left k vs refl)
+
+pub demand1 : Demand1
+unfolding lotCosts runFlow findOrder findBuffer findAndRun findAndRunFlow
+demand1 = record {
+  book = λ book. answered [] [] (book-says book) (λ k vs q. book-in-table q .0) (λ k vs e. refl);
+  amounts = λ book amounts. answered [] [] (amounts-say book amounts) (λ k vs q. amounts-in-table q .0) (λ k vs e. refl);
+  check = λ book order. answered [] [] (check-says book order) (λ k vs q. check-in-table q .0) (λ k vs e. refl);
+  run = λ book order amounts flow. answered flow _ (run-says book order amounts flow) (λ k vs. run-in-table) (λ k vs e. rw e refl);
+  find = λ book buffer. answered buffer _ (find-says book buffer) (λ k vs. find-in-table)
+      (λ k vs e. rw (refused-before (foundOrder book buffer) _ k vs e) refl);
+  find-and-run = λ book amounts flow. answered flow _ (find-and-run-says book amounts flow) (λ k vs. find-run-in-table)
+      (λ k vs e. rw (refused-before (foundToRun book amounts flow) _ k vs e) refl);
+  prints = printed-ends;
+  costs-of-refused = λ book lot k vs e. rw e refl;
+  costs-outside = λ book lot n e outside. rw (e, T-false (ltb lot (n .lots)) (λ t. omega (arith, ltb→lt lot (n .lots) t))) refl;
+}
+
+-- what the finder wrote passes the check
+module _ (book buffer : List ℕ) (n : ℕ) (e : findOrder book buffer ≡ gives n) where
+  returned-passes : Passing book (take n (findBuffer book buffer))
+  returned-passes = let w = written book buffer n e in rw (w .file) (found-passes book (w .order) (w .gave .readable) (w .gave .found))
+
+  returned-count : orderCount (take n (findBuffer book buffer)) ≡ size (problemOf book)
+  returned-count =
+      let w = written book buffer n e in
+      rw (w .file) (count-back (w .order) ∙ order-length (find-is-order (problemOf book) (w .order) (w .gave .found)))
+
+-- Demand 2
+pub demand2 : Demand2
+demand2 = record {
+  book-limits = book-limits;
+  lot-costs = λ book n e i j (inside, _, admitted). lot-cost-at book n e i inside j admitted;
+  amounts-limits = λ book amounts n e.
+      let (book-is, read) = amounts-read book amounts n e in
+      (book-reads book n book-is, amounts-within book-is read);
+  order-back = λ S. (order-file-shaped S, order-back S);
+  passes = check-passes;
+  only-these = check-passes-only;
+  runs = ran;
+  read-back = λ book buffer n e. check-passes book _ (returned-passes book buffer n e) ∙ ap gives (returned-count book buffer n e);
+  find-and-run = λ book buffer n e amounts flow.
+      let w = written book buffer n e in
+      rw (w .file) (find-and-run-is-run book amounts flow (w .order) (w .gave .found));
+}
+
+-- Demand 3
+module _ (book buffer : List ℕ) (readable : Readable book) (long : orderLength book ≤ length buffer) where
+  only-13 : {k : ℕ} {vs : List ℕ} → FindRefused book buffer k vs
+      → (_≡_ {A = Reply ℕ} (refuses k vs) (refuses 13 [])) × (find (problemOf book) ≡ none)
+  only-13 (of-book q e) = absurd (not-both (readable .1) e)
+  only-13 (buffer-too-short _ h) = absurd (omega arith)
+  only-13 (no-order _ _ e) = (refl, e)
+
+  found-or-13 : (findOrder book buffer ≡ gives (orderLength book)) ⊎ (findOrder book buffer ≡ refuses 13 [])
+  found-or-13 = by-reply (find-says book buffer) (λ n gave e. inl (e ∙ ap gives (gave .0))) (λ k vs q e. inr (e ∙ only-13 q .0))
+
+  found-if-good : (S : List Pair) → GoodOrder book S → findOrder book buffer ≡ gives (orderLength book)
+  found-if-good S (order, good) =
+      let monge = monge-of-good amountLimit (problemOf book) S order good (lit≤ tt) in
+      let some-order : (find (problemOf book) ≡ none → ⊥) = λ e. find-none (problemOf book) e S order monge in
+      let (n, gave, e) = gives-if-never-refused (find-says book buffer) (λ k vs q. some-order (only-13 q .1)) in
+      e ∙ ap gives (gave .0)
+
+  refused-if-none-good : ((S : List Pair) → GoodOrder book S → ⊥) → findOrder book buffer ≡ refuses 13 []
+  refused-if-none-good never =
+      let (k, vs, q, e) = refused-if-never-given (find-says book buffer) (λ n (_, S, gave, _). never S (found-is-good S (gave .found))) in
+      e ∙ only-13 q .0
+    where
+      found-is-good : (S : List Pair) → find (problemOf book) ≡ some S → GoodOrder book S
+      found-is-good S found =
+          let order = find-is-order (problemOf book) S found in
+          (order, good-of-monge order (find-is-monge (problemOf book) S found) amountLimit)
+
+pub demand3 : Demand3
+demand3 = record {
+  finds = found-if-good;
+  or-13 = refused-if-none-good;
+  one-of-two = found-or-13;
+  by-returned = λ book buffer n e.
+      let its-length = written book buffer n e .its-length in
+      let runs = by-passing book _ (returned-passes book buffer n e) in
+      (its-length, subst (λ (m : ℕ). ByReturned book (take m (findBuffer book buffer))) its-length runs);
+}

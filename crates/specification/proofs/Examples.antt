@@ -1,0 +1,96 @@
+-- The demands' hypotheses are met, by F1's book and amounts and by F9's book: the demands speak of something.
+use mathlib.Core.Path.{_≡_, refl, sym, _∙_}
+use mathlib.Core.List.{List, [], _∷_}
+use Prim.Native.Nat.{ℕ, _≤_}
+use native.Mathlib.Omega.{arith}
+use lib.Count.{ones, onesIn}
+use lib.ListN.{length, replicate}
+use Rattle.transport.specs.Problem.{sum, Meets}
+use Rattle.transport.specs.Greedy.{Pair}
+use Rattle.transport.specs.Finder.{every}
+use Rattle.specification.specs.Reply.{gives, full, Outcome}
+use Rattle.specification.specs.Bytes.{u16At, u32At, readOpening}
+use Rattle.specification.specs.Book.{readCosts, readRow, readRows, readBook, rowAt, problemOf}
+use Rattle.specification.specs.Amounts.{lotAmount, callAmount, readAmountsOf, readAmounts}
+use Rattle.specification.specs.OrderFile.{orderPairs}
+use Rattle.specification.specs.Run.{runOrder}
+use Rattle.specification.specs.Find.{orderLength, findOrder}
+use Rattle.specification.specs.Demands.{Readable, Passing, GoodOrder, returned}
+use Rattle.specification.specs.Examples.{book1235, amounts5436, bookDiagonal, known-examples}
+use Rattle.specification.proofs.Replies.{not-both}
+use Rattle.specification.proofs.Demands.{demand2, demand3}
+
+-- the buffers of the examples
+abbrev orderBuffer : List ℕ
+orderBuffer = replicate 16 7
+
+abbrev flowBuffer : List ℕ
+flowBuffer = 9 ∷ 9 ∷ 9 ∷ 9 ∷ 9 ∷ []
+
+-- the order file that is returned for F1's book, and the outcome of the run by it
+abbrev order : List ℕ
+order = returned book1235 orderBuffer
+
+abbrev outcome : Outcome
+outcome = record { verdict = full; units = 9; cost = 24 }
+
+-- what demands 2 and 3 assume, each met
+pub record NotVacuous : Type 0 where
+  -- a readable book, a buffer long enough, and an order returned
+  pub readable : Readable book1235
+  pub long-enough : orderLength book1235 ≤ length orderBuffer
+  pub found : findOrder book1235 orderBuffer ≡ gives (orderLength book1235)
+  -- a good order and a passing one
+  pub some-good : (S : List Pair) × GoodOrder book1235 S
+  pub some-passing : (S : List ℕ) × Passing book1235 S
+  -- amounts that are read, a run that is accepted, and an allocation that meets everything
+  pub amounts-read : readAmounts book1235 amounts5436 ≡ gives (record { lots = 2; calls = 2 })
+  pub run-accepted : runOrder book1235 order amounts5436 flowBuffer ≡ gives outcome
+  pub some-meets : (x : ℕ → ℕ → ℕ) × Meets (problemOf book1235) (lotAmount amounts5436) (callAmount book1235 amounts5436) x
+  -- a readable book with no good order
+  pub none-good : Readable bookDiagonal × ((S : List Pair) → GoodOrder bookDiagonal S → ⊥)
+
+length-1235 : orderLength book1235 ≡ 15
+unfolding problemOf rowAt u16At u32At sum ones
+length-1235 = refl
+
+length-diagonal : orderLength bookDiagonal ≡ 19
+unfolding problemOf rowAt u16At u32At sum ones
+length-diagonal = refl
+
+reads-1235 : readBook book1235 ≡ gives (record { lots = 2; calls = 2 })
+unfolding u16At u32At readOpening readCosts readRow readRows readBook ones onesIn
+reads-1235 = refl
+
+reads-diagonal : readBook bookDiagonal ≡ gives (record { lots = 3; calls = 3 })
+unfolding u16At u32At readOpening readCosts readRow readRows readBook ones onesIn
+reads-diagonal = refl
+
+reads-amounts : readAmounts book1235 amounts5436 ≡ gives (record { lots = 2; calls = 2 })
+unfolding readAmounts readAmountsOf u16At u32At readOpening every
+reads-amounts = rw reads-1235 refl
+
+runs-1235 : runOrder book1235 order amounts5436 flowBuffer ≡ gives outcome
+runs-1235 =
+    rw length-1235 (sym (demand2 .find-and-run book1235 orderBuffer 15 (known-examples .f1-found .0) amounts5436 flowBuffer .0)
+    ∙ known-examples .f1-placed .0)
+
+pub not-vacuous : NotVacuous
+not-vacuous =
+    let found = known-examples .f1-found .0 in
+    let long : orderLength bookDiagonal ≤ 19 = omega (arith, length-diagonal) in
+    let (_, by) = demand3 .by-returned book1235 orderBuffer 15 found in
+    record {
+      readable = (_, reads-1235);
+      long-enough = omega (arith, length-1235);
+      found = rw length-1235 found;
+      some-good = (orderPairs order, by .good);
+      some-passing = (_, demand2 .only-these book1235 _ _ (demand2 .read-back book1235 orderBuffer 15 found));
+      amounts-read = reads-amounts;
+      run-accepted = runs-1235;
+      some-meets = by .full-only-if amounts5436 flowBuffer outcome runs-1235 refl;
+      none-good = (
+        (_, reads-diagonal),
+        λ S good. not-both (demand3 .finds bookDiagonal (replicate 19 7) (_, reads-diagonal) long S good) (known-examples .f9),
+      );
+    }

@@ -1,0 +1,142 @@
+-- What finding an order says: the book is readable, the buffer is long enough, and the order written is the finder's. Read back it
+-- passes the check, since the finder's order is an order of the eligible pairs and a Monge sequence. Where it replies 13 there is no order.
+use mathlib.Core.Path.{_≡_, refl, _∙_, ap₂}
+use mathlib.Core.List.{List, [], _++_}
+use mathlib.Core.Option.{Option, some, none}
+use Prim.Native.Nat.{ℕ, _≤_, _<_}
+use native.Mathlib.Omega.{arith}
+use lib.Dec.{ltb, ltb→lt, nltb→le}
+use lib.ListN.{length, take, drop, length-append, length-drop}
+use Rattle.transport.specs.Greedy.{Pair}
+use Rattle.transport.specs.Finder.{find, size}
+use Rattle.transport.proofs.Orders.Lists.{lists-of-order}
+use Rattle.transport.proofs.Orders.Length.{order-length}
+use Rattle.transport.proofs.Finder.Find.{find-is-order, find-is-monge}
+use Rattle.specification.specs.declared.Refusal.the-variants as refusal
+use Rattle.specification.specs.Reply.{gives, refuses}
+use Rattle.specification.specs.Book.{readBook, problemOf}
+use Rattle.specification.specs.OrderFile.{orderFile}
+use Rattle.specification.specs.Find.{orderLength, orderOr13, foundOrder, findOrder, findBuffer}
+use Rattle.specification.specs.Demands.{InTable, Readable, Passing}
+use Rattle.specification.proofs.Replies.{
+  Says,
+  giving,
+  refusing,
+  said-of-given,
+  gives-less,
+  says-known,
+  says-then,
+  says-unless,
+  says-afterwards,
+}
+use Rattle.specification.proofs.Books.{BookRefused, book-says, book-read, size-within, pair-within}
+use Rattle.specification.proofs.Lines.{book-in-table}
+use Rattle.specification.proofs.OrderFiles.{
+  order-back,
+  order-file-length,
+  order-file-shaped,
+  order-file-taken,
+  AllBytes,
+  order-file-bytes,
+}
+
+-- the finder's answer, or 13
+pub or-13-says : (book : List ℕ) {Q : ℕ → List ℕ → Type 0} → (find (problemOf book) ≡ none → Q 13 [])
+    → Says (λ S. find (problemOf book) ≡ some S) Q (orderOr13 book)
+or-13-says book {Q} never = by-answer (find (problemOf book)) refl
+  where
+    by-answer : (o : Option (List Pair)) → find (problemOf book) ≡ o
+        → Says (λ S. find (problemOf book) ≡ some S) Q (elim o [ none ↦ refuses 13 [] | some S ↦ gives S ])
+    by-answer none e = refusing (never e)
+    by-answer (some S) e = giving e
+
+pub data FindRefused (book buffer : List ℕ) : ℕ → List ℕ → Type 0 where
+  of-book : {k : ℕ} {vs : List ℕ} → BookRefused book k vs → readBook book ≡ refuses k vs → FindRefused book buffer k vs
+  buffer-too-short : Readable book → length buffer < orderLength book → FindRefused book buffer 17 []
+  no-order : Readable book → orderLength book ≤ length buffer → find (problemOf book) ≡ none → FindRefused book buffer 13 []
+
+-- the finder's order, from a readable book into a buffer that is long enough
+pub record FindGave (book buffer : List ℕ) (S : List Pair) : Type 0 where
+  pub readable : Readable book
+  pub long : orderLength book ≤ length buffer
+  pub found : find (problemOf book) ≡ some S
+
+pub found-says : (book buffer : List ℕ) → Says (FindGave book buffer) (FindRefused book buffer) (foundOrder book buffer)
+unfolding foundOrder
+found-says book buffer =
+    says-then _ (says-known (book-says book)) (λ k vs (q, e). of-book q e) (λ n (read, reads).
+    says-unless (ltb (length buffer) (orderLength book)) 17 _ _ (λ t. buffer-too-short (n, reads) (ltb→lt _ _ t)) (λ long.
+    let enough = nltb→le (length buffer) (orderLength book) long in
+    gives-less (or-13-says book (no-order (n, reads) enough)) (λ S found. record { readable = (n, reads); long = enough; found = found })))
+
+pub find-says : (book buffer : List ℕ)
+    → Says (λ n. (n ≡ orderLength book) × (S : List Pair) × FindGave book buffer S × (foundOrder book buffer ≡ gives S))
+    (FindRefused book buffer) (findOrder book buffer)
+unfolding findOrder
+find-says book buffer =
+    says-then _ (says-known (found-says book buffer)) (λ k vs q. q .0) (λ S (gave, it). giving (refl, S, gave, it))
+
+-- the file of the finder's order passes the check
+pub found-passes : (book : List ℕ) (S : List Pair) → Readable book → find (problemOf book) ≡ some S → Passing book (orderFile S)
+found-passes book S readable found = record {
+  readable = readable;
+  shaped = order-file-shaped S;
+  each-once = rw (order-back S) (find-is-order (problemOf book) S found);
+  monge = rw (order-back S) (find-is-monge (problemOf book) S found);
+}
+
+-- the order buffer keeps its length
+pub length-findBuffer : (book buffer : List ℕ) → length (findBuffer book buffer) ≡ length buffer
+unfolding findBuffer
+length-findBuffer book buffer = says-afterwards buffer _ (λ s. length s ≡ length buffer) (found-says book buffer) refl (λ S gave. omega (
+  arith,
+  length-append (orderFile S) (drop (orderLength book) buffer),
+  length-drop (orderLength book) buffer,
+  order-file-length S,
+  order-length (find-is-order (problemOf book) S (gave .found)),
+  gave .long,
+))
+
+-- what is left in the buffer where a length is replied: the file of the finder's order up to that length, and the old bytes after it
+pub record Written (book buffer : List ℕ) (n : ℕ) : Type 0 where
+  pub order : List Pair
+  pub gave : FindGave book buffer order
+  pub its-length : n ≡ orderLength book
+  pub contents : findBuffer book buffer ≡ orderFile order ++ drop (orderLength book) buffer
+  pub file : take n (findBuffer book buffer) ≡ orderFile order
+
+contents-of : (book buffer : List ℕ) (S : List Pair) → foundOrder book buffer ≡ gives S
+    → findBuffer book buffer ≡ orderFile S ++ drop (orderLength book) buffer
+unfolding findBuffer
+contents-of book buffer S it = rw it refl
+
+file-of : (book buffer : List ℕ) (S : List Pair) → find (problemOf book) ≡ some S
+    → take (orderLength book) (orderFile S ++ drop (orderLength book) buffer) ≡ orderFile S
+file-of book buffer S found =
+    order-file-taken S (size (problemOf book)) (drop (orderLength book) buffer) (order-length (find-is-order (problemOf book) S found))
+
+pub written : (book buffer : List ℕ) (n : ℕ) → findOrder book buffer ≡ gives n → Written book buffer n
+written book buffer n e =
+    let (long, S, gave, it) = said-of-given (find-says book buffer) n e in
+    let contents = contents-of book buffer S it in
+    record {
+      order = S;
+      gave = gave;
+      its-length = long;
+      contents = contents;
+      file = ap₂ take long contents ∙ file-of book buffer S (gave .found);
+    }
+
+-- each refusal is a line of the table
+pub find-in-table : {book buffer : List ℕ} {k : ℕ} {vs : List ℕ} → FindRefused book buffer k vs → InTable k vs
+find-in-table (of-book q e) = book-in-table q .0
+find-in-table (buffer-too-short readable h) = (refusal.BufferTooShort, refl, refl)
+find-in-table (no-order readable long e) = (refusal.NoOrder, refl, refl)
+
+-- the finder's file is made of bytes
+pub found-file-bytes : (book : List ℕ) (S : List Pair) → Readable book → find (problemOf book) ≡ some S → AllBytes (orderFile S)
+found-file-bytes book S (n, e) found =
+    let read = book-read book n e in
+    let order = find-is-order (problemOf book) S found in
+    order-file-bytes S (omega (arith, order-length order, size-within read))
+    (λ i j h. let within = pair-within read i j (lists-of-order order .eligible i j h) in omega arith)

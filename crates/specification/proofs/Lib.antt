@@ -1,0 +1,22 @@
+-- What is proved of document 01's definitions: what each reply means, and the demands.
+pub mod Refusals
+pub mod Replies
+pub mod Numbers
+pub mod Bits
+pub mod Books
+pub mod LotCosts
+pub mod AmountsFiles
+pub mod Lines
+pub mod Holding
+pub mod Crossing
+pub mod Checks
+pub mod OrderFiles
+pub mod Flows
+pub mod Runs
+pub mod Finds
+pub mod FindRuns
+pub mod Bounds
+pub mod Texts
+pub mod Demands
+pub mod Examples
+pub mod Stated

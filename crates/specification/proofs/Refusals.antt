@@ -1,0 +1,152 @@
+-- The refusals, computed from the definitions: each number of the table on an input that shows it, and on an input that shows two, the
+-- one that document 01 puts first. F12 to F14 are among them.
+use mathlib.Core.Path.{_≡_, refl}
+use mathlib.Core.List.{List, [], _∷_, _++_}
+use Prim.Native.Nat.{ℕ}
+use lib.ListN.{replicate, take}
+use lib.Count.{ones, onesIn}
+use Rattle.transport.specs.Problem.{sum}
+use Rattle.transport.specs.Greedy.{Pair, giveAll}
+use Rattle.transport.specs.Order.{times}
+use Rattle.transport.specs.Finder.{every, first, takeFrom}
+use Rattle.specification.specs.Reply.{gives, refuses, full}
+use Rattle.specification.specs.Bytes.{u16At, u32At, bookMark, amountsMark, readOpening}
+use Rattle.specification.specs.Book.{readCosts, readRow, readRows, readBook, rowAt, problemOf, lotCosts}
+use Rattle.specification.specs.OrderFile.{pairs, pairBytes, orderFile}
+use Rattle.specification.specs.Check.{checkPairs, checkQuadruple, inTurn, checkMonge, checkOrder}
+use Rattle.specification.specs.Amounts.{readAmountsOf, readAmounts}
+use Rattle.specification.specs.Run.{tabulate, flowOf, runOrder, runFlow}
+use Rattle.specification.specs.Find.{foundOrder, findOrder, findBuffer, foundToRun, findAndRun, findAndRunFlow}
+use Rattle.specification.specs.Text.{digits, line, textOf, printed}
+use Rattle.specification.specs.Examples.{words, book, amounts, pair, book1235, amounts5436, bookGap, bookDiagonal}
+
+-- 1,000,000 and 1,000,001 as costs, 1,000,000,000 and 1,000,000,001 as amounts
+abbrev highestCost : List ℕ
+highestCost = 64 ∷ 66 ∷ 15 ∷ 0 ∷ []
+
+abbrev highCost : List ℕ
+highCost = 65 ∷ 66 ∷ 15 ∷ 0 ∷ []
+
+abbrev highestAmount : List ℕ
+highestAmount = 0 ∷ 202 ∷ 154 ∷ 59 ∷ []
+
+abbrev highAmount : List ℕ
+highAmount = 1 ∷ 202 ∷ 154 ∷ 59 ∷ []
+
+-- a book of one lot and call, and its amounts
+abbrev single : List ℕ → List ℕ
+single cost = book 1 1 (1 ∷ []) ++ cost
+
+abbrev singles : List ℕ → List ℕ
+singles amount = amounts 1 1 [] ++ (amount ++ amount)
+
+-- F2's order
+abbrev byRows : List Pair
+byRows = pair 0 0 ∷ pair 0 1 ∷ pair 1 0 ∷ pair 1 1 ∷ []
+
+pub record BookRefusals : Type 0 where
+  -- 1 before 2, 2 before 3, 3 before 4: the version is both bytes
+  pub under-seven : readBook (88 ∷ []) ≡ refuses 1 []
+  pub mark-differs : readBook (amountsMark ++ (2 ∷ 0 ∷ 1 ∷ 1 ∷ [])) ≡ refuses 2 []
+  pub version-not-one : readBook (bookMark ++ (1 ∷ 1 ∷ 0 ∷ 1 ∷ [])) ≡ refuses 3 []
+  -- 4 before 6 (F14: m is 33)
+  pub no-lots : readBook (book 0 1 []) ≡ refuses 4 []
+  pub calls-above-32 : readBook (book 1 33 []) ≡ refuses 4 []
+  -- 6 for the word, then 5 (F14: bit 2 with m 2), then 6 for the costs, then 7; lot by lot
+  pub word-cut : readBook (book 1 2 [] ++ (4 ∷ 0 ∷ 0 ∷ [])) ≡ refuses 6 []
+  pub bit-outside : readBook (book 1 2 (4 ∷ [])) ≡ refuses 5 (0 ∷ [])
+  pub bit-outside-later : readBook (book 2 2 (0 ∷ 7 ∷ [])) ≡ refuses 5 (1 ∷ [])
+  pub costs-cut : readBook (book 1 2 (3 ∷ []) ++ highCost) ≡ refuses 6 []
+  pub cost-too-high : readBook (single highCost) ≡ refuses 7 (0 ∷ 0 ∷ [])
+  pub cost-before-next-lot : readBook (book 2 1 (1 ∷ []) ++ highCost) ≡ refuses 7 (0 ∷ 0 ∷ [])
+  pub cost-of-call-3 : readBook (book 1 4 (10 ∷ 0 ∷ []) ++ highCost) ≡ refuses 7 (0 ∷ 3 ∷ [])
+  -- 8 last
+  pub bytes-after : readBook (book1235 ++ (0 ∷ [])) ≡ refuses 8 []
+  -- the costs of a lot: that stretch, or an empty one
+  pub costs-of-lot-1 : lotCosts book1235 1 ≡ words (3 ∷ 5 ∷ [])
+  pub costs-of-lot-2 : lotCosts book1235 2 ≡ []
+  pub costs-of-refused : lotCosts (book1235 ++ (0 ∷ [])) 1 ≡ []
+
+pub book-refusals : BookRefusals
+unfolding u16At u32At readOpening readCosts readRow readRows readBook rowAt lotCosts ones onesIn
+book-refusals = record {
+  under-seven = refl;
+  mark-differs = refl;
+  version-not-one = refl;
+  no-lots = refl;
+  calls-above-32 = refl;
+  word-cut = refl;
+  bit-outside = refl;
+  bit-outside-later = refl;
+  costs-cut = refl;
+  cost-too-high = refl;
+  cost-before-next-lot = refl;
+  cost-of-call-3 = refl;
+  bytes-after = refl;
+  costs-of-lot-1 = refl;
+  costs-of-lot-2 = refl;
+  costs-of-refused = refl;
+}
+
+pub record OtherRefusals : Type 0 where
+  -- an order: 6 and 8 before 9; then 9 and 10 by place; then 14; then 11 or 12
+  pub order-ends-early : checkOrder book1235 (take 8 (orderFile (pair 9 9 ∷ []))) ≡ refuses 6 []
+  pub order-bytes-after : checkOrder book1235 (orderFile (pair 9 9 ∷ []) ++ (0 ∷ [])) ≡ refuses 8 []
+  pub call-outside : checkOrder book1235 (orderFile (pair 0 0 ∷ pair 0 2 ∷ [])) ≡ refuses 9 (1 ∷ [])
+  pub not-eligible : checkOrder bookGap (orderFile (pair 1 1 ∷ [])) ≡ refuses 9 (0 ∷ [])
+  pub met-before : checkOrder book1235 (orderFile (pair 0 0 ∷ pair 0 1 ∷ pair 0 0 ∷ pair 9 9 ∷ [])) ≡ refuses 10 (2 ∷ [])
+  pub missing : checkOrder book1235 (orderFile (pair 0 0 ∷ pair 0 1 ∷ pair 1 0 ∷ [])) ≡ refuses 14 []
+  -- amounts: 15 before 6; 8 before 16 (F13)
+  pub counts-differ : readAmounts book1235 (amounts 7 7 []) ≡ refuses 15 []
+  pub amounts-end-early : readAmounts book1235 (amounts 2 2 (5 ∷ 4 ∷ 3 ∷ [])) ≡ refuses 6 []
+  pub amounts-bytes-after : readAmounts (single highestCost) (singles highAmount ++ (0 ∷ [])) ≡ refuses 8 []
+  pub amount-too-high : readAmounts (single highestCost) (singles highAmount) ≡ refuses 16 []
+  -- a run: the order before the amounts, the amounts before 17; the flow buffer is kept
+  pub order-before-amounts : runOrder book1235 (orderFile byRows) [] [] ≡ refuses 12 (0 ∷ 0 ∷ 1 ∷ 1 ∷ [])
+  pub amounts-before-17 : runOrder (single highestCost) (orderFile (pair 0 0 ∷ [])) (singles highAmount) [] ≡ refuses 16 []
+  pub flow-too-short : runOrder (single highestCost) (orderFile (pair 0 0 ∷ [])) (singles highestAmount) [] ≡ refuses 17 []
+  pub flow-kept : runFlow book1235 (orderFile byRows) amounts5436 (8 ∷ []) ≡ 8 ∷ []
+  -- the finder: 17 before 13, and a buffer that is kept
+  pub buffer-too-short : findOrder bookDiagonal (replicate 18 7) ≡ refuses 17 []
+  pub buffer-kept : findBuffer bookDiagonal (replicate 19 7) ≡ replicate 19 7
+  -- find and run: amounts, then 17, and 13 last
+  pub amounts-before-13 : findAndRun bookDiagonal [] [] ≡ refuses 1 []
+  pub short-before-13 : findAndRun bookDiagonal (amounts 3 3 (0 ∷ 0 ∷ 0 ∷ 0 ∷ 0 ∷ 0 ∷ [])) (replicate 8 7) ≡ refuses 17 []
+  pub no-order : findAndRun bookDiagonal (amounts 3 3 (0 ∷ 0 ∷ 0 ∷ 0 ∷ 0 ∷ 0 ∷ [])) (replicate 9 7) ≡ refuses 13 []
+  -- entry i times m plus j, where n and m differ
+  pub one-by-two : findAndRunFlow (book 1 2 (3 ∷ 0 ∷ 0 ∷ [])) (amounts 1 2 (5 ∷ 2 ∷ 3 ∷ [])) (9 ∷ 9 ∷ 9 ∷ []) ≡ 2 ∷ 3 ∷ 9 ∷ []
+  -- F12
+  pub largest : findAndRun (single highestCost) (singles highestAmount) (0 ∷ [])
+      ≡ gives (record { verdict = full; units = 1000000000; cost = 1000000000000000 })
+  -- the printed refusal is its number alone: REFUSED 5
+  pub printed-refusal : printed (book 1 2 (4 ∷ [])) [] ≡ 82 ∷ 69 ∷ 70 ∷ 85 ∷ 83 ∷ 69 ∷ 68 ∷ 32 ∷ 53 ∷ 10 ∷ []
+
+pub other-refusals : OtherRefusals
+unfolding u16At u32At readOpening readCosts readRow readRows readBook rowAt problemOf readAmountsOf readAmounts pairs pairBytes
+other-refusals =
+    unfold checkPairs checkQuadruple inTurn checkMonge checkOrder tabulate flowOf sum times giveAll every first takeFrom ones onesIn in
+    unfold runOrder runFlow foundOrder findOrder findBuffer foundToRun findAndRun findAndRunFlow digits line textOf printed in
+    record {
+      order-ends-early = refl;
+      order-bytes-after = refl;
+      call-outside = refl;
+      not-eligible = refl;
+      met-before = refl;
+      missing = refl;
+      counts-differ = refl;
+      amounts-end-early = refl;
+      amounts-bytes-after = refl;
+      amount-too-high = refl;
+      order-before-amounts = refl;
+      amounts-before-17 = refl;
+      flow-too-short = refl;
+      flow-kept = refl;
+      buffer-too-short = refl;
+      buffer-kept = refl;
+      amounts-before-13 = refl;
+      short-before-13 = refl;
+      no-order = refl;
+      one-by-two = refl;
+      largest = refl;
+      printed-refusal = refl;
+    }

@@ -1,0 +1,180 @@
+-- What running an order says: the order passes, the amounts are read and the flow buffer is long enough, and the outcome and the flow
+-- are GREEDY's. What holds of every order that passes is proved here: by the theorems on Monge sequences its runs are Full exactly when
+-- some allocation meets everything, and no allocation has more units, or costs less where it meets everything.
+use mathlib.Core.Path.{_≡_, refl, sym, _∙_, ap}
+use mathlib.Core.Logic.{_⊎_, inl, inr, _↔_}
+use mathlib.Core.Bool.{Bool, true, false, cond}
+use mathlib.Core.List.{List, []}
+use Prim.Native.Nat.{ℕ, _*_, _≤_, _<_}
+use native.Mathlib.Omega.{arith}
+use lib.Dec.{T, eqb, ltb→lt, nltb→le, eqb→eq}
+use lib.ListN.{length}
+use Rattle.transport.specs.Problem.{Problem, Meets, units, totalCost}
+use Rattle.transport.specs.Greedy.{State}
+use Rattle.transport.specs.Finder.{every}
+use Rattle.transport.proofs.Laws.Tests.{T-true, and-says, and-of}
+use Rattle.transport.proofs.Laws.Searches.{every-says, every-of}
+use Rattle.transport.proofs.Orders.Lists.{lists-of-order}
+use Rattle.transport.proofs.Greedy.Given.{Spent, greedy-allocation, greedy-meets}
+use Rattle.transport.proofs.Greedy.Optimal.{greedy-most-units, greedy-least-cost, good-of-monge}
+use Rattle.specification.specs.declared.Refusal.the-variants as refusal
+use Rattle.specification.specs.Reply.{gives, refuses, Size, Outcome, full, short}
+use Rattle.specification.specs.Book.{problemOf}
+use Rattle.specification.specs.Amounts.{amountLimit, readAmounts, lotAmount, callAmount}
+use Rattle.specification.specs.OrderFile.{orderPairs}
+use Rattle.specification.specs.Check.{checkOrder}
+use Rattle.specification.specs.Run.{greedyOn, nothingLeft, outcome, flowOf, flowTooShort, runOrder, runFlow}
+use Rattle.specification.specs.Demands.{InTable, Passing, Ran, ByReturned}
+use Rattle.specification.proofs.Replies.{
+  Says,
+  giving,
+  not-both,
+  said-of-given,
+  said-of-refused,
+  says-known,
+  says-then,
+  says-unless,
+  says-afterwards,
+}
+use Rattle.specification.proofs.Books.{BookRead}
+use Rattle.specification.proofs.AmountsFiles.{AmountsRead, AmountsOrBookRefused, amounts-say}
+use Rattle.specification.proofs.Lines.{amounts-in-table}
+use Rattle.specification.proofs.Checks.{CheckRefused, check-says, check-in-table, check-passes}
+use Rattle.specification.proofs.Flows.{length-flowOf, flow-at, flow-kept, units-over-flow, cost-over-flow}
+
+pub data RunRefused (book order amounts flow : List ℕ) : ℕ → List ℕ → Type 0 where
+  of-check : {k : ℕ} {vs : List ℕ} → CheckRefused book order k vs → checkOrder book order ≡ refuses k vs
+      → RunRefused book order amounts flow k vs
+  of-amounts : {k : ℕ} {vs : List ℕ} → Passing book order → AmountsOrBookRefused book amounts k vs → readAmounts book amounts ≡ refuses k vs
+      → RunRefused book order amounts flow k vs
+  flow-too-short : {n : Size} → Passing book order → AmountsRead n amounts → length flow < problemOf book .lots * problemOf book .calls
+      → RunRefused book order amounts flow 17 []
+
+-- each is a line of the table
+pub run-in-table : {book order amounts flow : List ℕ} {k : ℕ} {vs : List ℕ} → RunRefused book order amounts flow k vs → InTable k vs
+run-in-table (of-check q e) = check-in-table q .0
+run-in-table (of-amounts passing q e) = amounts-in-table q .0
+run-in-table (flow-too-short passing read h) = (refusal.BufferTooShort, refl, refl)
+
+-- the outcome is GREEDY's, the order passes, the amounts are read, and the flow buffer is long enough
+pub record RunGave (book order amounts flow : List ℕ) (o : Outcome) : Type 0 where
+  pub outcome-is : o ≡ outcome (problemOf book) (greedyOn book (orderPairs order) amounts)
+  pub passing : Passing book order
+  pub read : (n : Size) × BookRead book n × AmountsRead n amounts
+  pub long : problemOf book .lots * problemOf book .calls ≤ length flow
+
+module _ (book order amounts flow : List ℕ) where
+  pub run-says : Says (RunGave book order amounts flow) (RunRefused book order amounts flow) (runOrder book order amounts flow)
+  unfolding runOrder
+  run-says =
+      says-then _ (says-known (check-says book order)) (λ k vs (q, e). of-check q e) (λ n ((count, passing), passes).
+      says-then _ (says-known (amounts-say book amounts)) (λ k vs (q, e). of-amounts passing q e) (λ m ((book-is, read), _).
+      says-unless (flowTooShort (problemOf book) flow) 17 _ _ (λ t. flow-too-short passing read (ltb→lt _ _ t)) (λ long.
+      giving (record { outcome-is = refl; passing = passing; read = (m, book-is, read); long = nltb→le _ _ long }))))
+
+  -- the flow buffer keeps its length
+  pub length-runFlow : length (runFlow book order amounts flow) ≡ length flow
+  unfolding runFlow
+  length-runFlow = says-afterwards flow _ (λ s. length s ≡ length flow) run-says refl
+      (λ o gave. length-flowOf (problemOf book) _ flow (gave .long))
+
+  -- a run that is not refused writes GREEDY's units
+  module _ (o : Outcome) (e : runOrder book order amounts flow ≡ gives o) where
+    pub outcome-is : o ≡ outcome (problemOf book) (greedyOn book (orderPairs order) amounts)
+    outcome-is = said-of-given run-says o e .outcome-is
+
+    pub run-flow-is : runFlow book order amounts flow ≡ flowOf (problemOf book) (greedyOn book (orderPairs order) amounts .given) flow
+    unfolding runFlow
+    run-flow-is = rw e refl
+
+    pub ran : Ran (problemOf book) (greedyOn book (orderPairs order) amounts .given) flow (runFlow book order amounts flow) o
+    ran =
+        let P : Problem = problemOf book in
+        let lists = lists-of-order (said-of-given run-says o e .passing .each-once) in
+        rw run-flow-is (record {
+          flow = flow-at P _ flow;
+          not-eligible = greedy-allocation lists (lotAmount amounts) (callAmount book amounts) .eligible-only;
+          kept = flow-kept P _ flow;
+          as-many = length-flowOf P _ flow (said-of-given run-says o e .long);
+          its-units = ap (λ r. r .units) outcome-is;
+          its-cost = ap (λ r. r .cost) outcome-is;
+          units-of-flow = ap (λ r. r .units) outcome-is ∙ units-over-flow P _ flow;
+          cost-of-flow = ap (λ r. r .cost) outcome-is ∙ cost-over-flow P _ flow;
+        })
+
+-- Full means that nothing is left
+module _ (P : Problem) (s : State) where
+  no-lot-left : Bool
+  no-lot-left = every (P .lots) (λ i. eqb (s .left i) 0)
+
+  no-call-lacks : Bool
+  no-call-lacks = every (P .calls) (λ j. eqb (s .lacks j) 0)
+
+  full-if-spent : Spent P s → outcome P s .verdict ≡ full
+  unfolding no-lot-left no-call-lacks
+  full-if-spent spent = rw (T-true (nothingLeft P s) (and-of no-lot-left no-call-lacks
+      (every-of (P .lots) _ (λ i h. rw (spent .lot-spent i h) tt))
+      (every-of (P .calls) _ (λ j h. rw (spent .call-spent j h) tt)))) refl
+
+  spent-if-full : outcome P s .verdict ≡ full → Spent P s
+  unfolding no-lot-left no-call-lacks
+  spent-if-full e =
+      let (lots, calls) = and-says no-lot-left no-call-lacks (tested (nothingLeft P s) e) in
+      record {
+        lot-spent = λ i h. eqb→eq (s .left i) 0 (every-says (P .lots) _ lots i h);
+        call-spent = λ j h. eqb→eq (s .lacks j) 0 (every-says (P .calls) _ calls j h);
+      }
+    where
+      tested : (b : Bool) → cond b full short ≡ full → T b
+      tested true e = tt
+      tested false e = let z : _≡_ {A = ℕ} 0 1 = cc in absurd (omega arith)
+
+-- every order that passes is good, gives most units, and its runs are refused for the amounts or the buffer alone
+pub by-passing : (book order : List ℕ) → Passing book order → ByReturned book order
+by-passing book order passing = record {
+  good = (passing .each-once, good-of-monge (passing .each-once) (passing .monge) amountLimit);
+  most-units = λ a b within x h. greedy-most-units (passing .each-once) (passing .monge) a b h;
+  refused-only = λ amounts flow k vs e. of-run (said-of-refused (run-says book order amounts flow) k vs e);
+  units-and-cost = λ amounts flow o e. (its-units amounts flow o e, its-cost amounts flow o e);
+  full-if = λ amounts flow o e x meets.
+      verdict-is amounts flow o e ∙ full-if-spent P (by amounts) (meets-if-spent amounts .0 (met amounts x meets));
+  full-only-if = λ amounts flow o e is-full. (
+    by amounts .given,
+    meets-if-spent amounts .1 (spent-if-full P (by amounts) (sym (verdict-is amounts flow o e) ∙ is-full)),
+  );
+  least-cost = λ amounts flow o e x meets. rw (its-cost amounts flow o e)
+      (greedy-least-cost (passing .each-once) (passing .monge) (lotAmount amounts) (callAmount book amounts) meets .1);
+  greatest-units = λ amounts flow o e x h. rw (its-units amounts flow o e)
+      (greedy-most-units (passing .each-once) (passing .monge) (lotAmount amounts) (callAmount book amounts) h);
+}
+  where
+    P : Problem
+    P = problemOf book
+
+    by : List ℕ → State
+    by amounts = greedyOn book (orderPairs order) amounts
+
+    meets-if-spent : (amounts : List ℕ) → Meets P (lotAmount amounts) (callAmount book amounts) (by amounts .given) ↔ Spent P (by amounts)
+    meets-if-spent amounts = greedy-meets (lists-of-order (passing .each-once)) (lotAmount amounts) (callAmount book amounts)
+
+    met : (amounts : List ℕ) (x : ℕ → ℕ → ℕ) → Meets P (lotAmount amounts) (callAmount book amounts) x
+        → Meets P (lotAmount amounts) (callAmount book amounts) (by amounts .given)
+    met amounts x meets = greedy-least-cost (passing .each-once) (passing .monge) (lotAmount amounts) (callAmount book amounts) meets .0
+
+    verdict-is : (amounts flow : List ℕ) (o : Outcome) → runOrder book order amounts flow ≡ gives o
+        → o .verdict ≡ outcome P (by amounts) .verdict
+    verdict-is amounts flow o e = ap (λ r. r .verdict) (outcome-is book order amounts flow o e)
+
+    its-units : (amounts flow : List ℕ) (o : Outcome) → runOrder book order amounts flow ≡ gives o
+        → o .units ≡ units P (by amounts .given)
+    its-units amounts flow o e = ap (λ r. r .units) (outcome-is book order amounts flow o e)
+
+    its-cost : (amounts flow : List ℕ) (o : Outcome) → runOrder book order amounts flow ≡ gives o
+        → o .cost ≡ totalCost P (by amounts .given)
+    its-cost amounts flow o e = ap (λ r. r .cost) (outcome-is book order amounts flow o e)
+
+    of-run : {amounts flow : List ℕ} {k : ℕ} {vs : List ℕ} → RunRefused book order amounts flow k vs
+        → (readAmounts book amounts ≡ refuses k vs) ⊎ ((k ≡ 17) × (length flow < P .lots * P .calls))
+    of-run (of-check q e) = absurd (not-both (check-passes book order passing) e)
+    of-run (of-amounts passing q e) = inl e
+    of-run (flow-too-short passing read h) = inr (refl, h)

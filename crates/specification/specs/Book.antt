@@ -1,0 +1,91 @@
+-- The book file (document 01, "The three files" and "Refused"), and the transportation problem that it states.
+use mathlib.Core.List.{List, [], _∷_}
+use mathlib.Core.Bool.{Bool, cond, _&&_, _||_}
+use Prim.Native.Nat.{ℕ, zero, suc, _+_, _*_, _/_, _%_, _^_}
+use lib.ListN.{length, take, drop}
+use lib.Dec.{ltb, leb, eqb}
+use lib.Count.{ones}
+use Rattle.transport.specs.Problem.{Problem}
+use Rattle.specification.specs.Reply.{Reply, gives, refuseIf, _>>=_, afterwards, Size}
+use Rattle.specification.specs.Bytes.{byteAt, u32At, bookMark, readOpening}
+
+-- "Costs are .. 0 to 1,000,000"
+abbrev pub costLimit : ℕ
+costLimit = 1000000
+
+-- bit j of a word, bit 0 the lowest
+abbrev pub bit : ℕ → ℕ → Bool
+bit word j = eqb (word / 2 ^ j % 2) 1
+
+-- the eligibility word of a row; a row is the part of the book that starts at a lot's word
+abbrev pub rowWord : List ℕ → ℕ
+rowWord row = u32At row 0
+
+-- the bytes of a row: the word, "then one 32-bit cost for each set bit"
+abbrev pub rowSize : List ℕ → ℕ
+rowSize row = 4 + 4 * ones (rowWord row)
+
+-- the cost of call j: the set bits below bit j are its place among the row's costs
+abbrev pub rowCost : List ℕ → ℕ → ℕ
+rowCost row j = u32At row (4 + 4 * ones (rowWord row % 2 ^ j))
+
+-- 7 for each cost, lowest bit first: calls j to j + left - 1
+unfoldable pub readCosts : List ℕ → ℕ → ℕ → ℕ → Reply (Unit {0})
+readCosts row lot zero j = gives tt
+readCosts row lot (suc left) j = do
+  _ ← refuseIf (bit (rowWord row) j && ltb costLimit (rowCost row j)) 7 (lot ∷ j ∷ [])
+  readCosts row lot left (suc j)
+
+-- "6 for the word, 5, 6 for the costs, 7 for each cost"; a bit m or higher is set where the word is 2 ^ m or more
+unfoldable pub readRow : List ℕ → ℕ → ℕ → Reply (Unit {0})
+readRow row lot calls = do
+  _ ← refuseIf (ltb (length row) 4) 6 []
+  _ ← refuseIf (leb (2 ^ calls) (rowWord row)) 5 (lot ∷ [])
+  _ ← refuseIf (ltb (length row) (rowSize row)) 6 []
+  readCosts row lot calls 0
+
+-- "lot by lot", `left` of them from `lot` on; "then 8"
+unfoldable pub readRows : List ℕ → ℕ → ℕ → ℕ → Reply (Unit {0})
+readRows rest lot zero calls = refuseIf (ltb 0 (length rest)) 8 []
+readRows rest lot (suc left) calls = do
+  _ ← readRow rest lot calls
+  readRows (drop (rowSize rest) rest) (suc lot) left calls
+
+-- "Bytes 5 and 6: n, m"
+abbrev pub bookLots : List ℕ → ℕ
+bookLots book = byteAt book 5
+
+-- m
+abbrev pub bookCalls : List ℕ → ℕ
+bookCalls book = byteAt book 6
+
+-- a count "is 0 or above 32"
+abbrev pub countOutside : ℕ → Bool
+countOutside n = eqb n 0 || ltb 32 n
+
+-- "Book: 1, 2, 3, 4; then lot by lot .. then 8"; the reply is n and m
+unfoldable pub readBook : List ℕ → Reply Size
+readBook book = do
+  _ ← readOpening bookMark book
+  _ ← refuseIf (countOutside (bookLots book) || countOutside (bookCalls book)) 4 []
+  _ ← readRows (drop 7 book) 0 (bookLots book) (bookCalls book)
+  gives (record { lots = bookLots book; calls = bookCalls book })
+
+-- the row of a lot: each starts where the one before it ends, the first after the opening
+unfoldable pub rowAt : List ℕ → ℕ → List ℕ
+rowAt book zero = drop 7 book
+rowAt book (suc i) = drop (rowSize (rowAt book i)) (rowAt book i)
+
+-- the book's transportation problem: n lots, m calls, (i, j) eligible where both are in the book and lot i's word has bit j, its cost
+unfoldable pub problemOf : List ℕ → Problem
+problemOf book = record {
+  lots = bookLots book;
+  calls = bookCalls book;
+  admits = λ i j. ltb i (bookLots book) && (ltb j (bookCalls book) && bit (rowWord (rowAt book i)) j);
+  cost = λ i j. rowCost (rowAt book i) j;
+}
+
+-- the stretch of the book that holds a lot's costs, "empty if the book is refused or the lot number is n or more"
+unfoldable pub lotCosts : List ℕ → ℕ → List ℕ
+lotCosts book i = afterwards (readBook book) [] (λ size.
+    cond (ltb i (size .lots)) (take (4 * ones (rowWord (rowAt book i))) (drop 4 (rowAt book i))) [])

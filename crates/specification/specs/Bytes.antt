@@ -1,0 +1,42 @@
+-- Little-endian numbers in a list of bytes, and the seven bytes that open each file (document 01, "The three files").
+use mathlib.Core.List.{List, [], _∷_}
+use mathlib.Core.Bool.{Bool, not, _&&_}
+use Prim.Native.Nat.{ℕ, _+_, _*_}
+use lib.ListN.{length, getD}
+use lib.Dec.{ltb, eqb}
+use Rattle.specification.specs.Reply.{Reply, refuseIf, _>>=_}
+
+-- the byte at a place; past the end 0, which no accepted file shows, since 6 is refused first
+abbrev pub byteAt : List ℕ → ℕ → ℕ
+byteAt s at = getD s at 0
+
+-- "Integers are little-endian": 16 bits
+unfoldable pub u16At : List ℕ → ℕ → ℕ
+u16At s at = byteAt s at + 256 * byteAt s (at + 1)
+
+-- 32 bits, the lower half first
+unfoldable pub u32At : List ℕ → ℕ → ℕ
+u32At s at = u16At s at + 65536 * u16At s (at + 2)
+
+-- the "three-letter ASCII mark" of a book, CLB
+abbrev pub bookMark : List ℕ
+bookMark = 67 ∷ 76 ∷ 66 ∷ []
+
+-- of an order, CLO
+abbrev pub orderMark : List ℕ
+orderMark = 67 ∷ 76 ∷ 79 ∷ []
+
+-- of amounts, CLA
+abbrev pub amountsMark : List ℕ
+amountsMark = 67 ∷ 76 ∷ 65 ∷ []
+
+-- the first three bytes are the mark
+abbrev pub marked : List ℕ → List ℕ → Bool
+marked mark s = eqb (byteAt s 0) (byteAt mark 0) && (eqb (byteAt s 1) (byteAt mark 1) && eqb (byteAt s 2) (byteAt mark 2))
+
+-- 1, 2, 3: under 7 bytes, the mark differs, "a 16-bit version that is 1"
+unfoldable pub readOpening : List ℕ → List ℕ → Reply (Unit {0})
+readOpening mark s = do
+  _ ← refuseIf (ltb (length s) 7) 1 []
+  _ ← refuseIf (not (marked mark s)) 2 []
+  refuseIf (not (eqb (u16At s 3) 1)) 3 []

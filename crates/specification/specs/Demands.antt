@@ -1,0 +1,182 @@
+-- The three demands, as types over what the entry points reply and leave in their buffers. Above each part stands the sentence it is.
+use mathlib.Core.Path.{_≡_}
+use mathlib.Core.Logic.{_⊎_}
+use mathlib.Core.List.{List, [], _∷_, _++_}
+use Prim.Native.Nat.{ℕ, _+_, _*_, _%_, _^_, _≤_, _<_}
+use lib.ListN.{length, getD, take}
+use lib.Count.{ones}
+use Rattle.transport.specs.Problem.{Problem, Eligible, sum, units, totalCost, Allocation, Meets, Within}
+use Rattle.transport.specs.Greedy.{Pair, greedy}
+use Rattle.transport.specs.Order.{OrderOf, Monge, Good}
+use Rattle.transport.specs.Finder.{size}
+use Rattle.specification.specs.declared.Refusal.{Refusal}
+use Rattle.specification.specs.Reply.{Reply, gives, refuses, stated, Size, Outcome, full}
+use Rattle.specification.specs.Bytes.{u32At, orderMark, readOpening}
+use Rattle.specification.specs.Book.{costLimit, rowWord, readBook, rowAt, problemOf, lotCosts}
+use Rattle.specification.specs.Amounts.{amountLimit, readAmounts, lotAmount, callAmount}
+use Rattle.specification.specs.OrderFile.{orderCount, orderPairs, orderFile}
+use Rattle.specification.specs.Check.{checkOrder}
+use Rattle.specification.specs.Run.{greedyOn, runOrder, runFlow}
+use Rattle.specification.specs.Find.{orderLength, findOrder, findBuffer, findAndRun, findAndRunFlow}
+use Rattle.specification.specs.Text.{printed}
+
+-- "a number from the table in document 01", and the values that its line returns
+abbrev pub InTable : ℕ → List ℕ → Type 0
+InTable k vs = (r : Refusal) × (stated r .number ≡ k) × (stated r .values ≡ vs)
+
+-- "either accepted or refused by a number from the table .. and a refusal writes to nothing": the lent buffer before and after
+abbrev pub Answered : {A : Type 0} → Reply A → List ℕ → List ℕ → Type 0
+Answered (gives a) before after = Unit {0}
+Answered (refuses k vs) before after = InTable k vs × (after ≡ before)
+
+-- Demand 1. "The program as a whole finishes on every input": each entry point is a function that is defined on all files and buffers.
+-- Files are lent for reading alone: nothing here gives one later contents.
+pub record Demand1 : Type 0 where
+  -- "each file, order and buffer handed to a public entry point is either accepted or refused": reading a book
+  pub book : (book : List ℕ) → Answered (readBook book) [] []
+  -- reading amounts with their book
+  pub amounts : (book amounts : List ℕ) → Answered (readAmounts book amounts) [] []
+  -- checking an order
+  pub check : (book order : List ℕ) → Answered (checkOrder book order) [] []
+  -- running an order
+  pub run : (book order amounts flow : List ℕ) → Answered (runOrder book order amounts flow) flow (runFlow book order amounts flow)
+  -- finding an order
+  pub find : (book buffer : List ℕ) → Answered (findOrder book buffer) buffer (findBuffer book buffer)
+  -- finding and running in one call
+  pub find-and-run : (book amounts flow : List ℕ) → Answered (findAndRun book amounts flow) flow (findAndRunFlow book amounts flow)
+  -- "(a lot's costs: by an empty stretch)": of a refused book
+  pub costs-of-refused : (book : List ℕ) (lot k : ℕ) (vs : List ℕ) → readBook book ≡ refuses k vs → lotCosts book lot ≡ []
+  -- and of a lot number n or more
+  pub costs-outside : (book : List ℕ) (lot : ℕ) (n : Size) → readBook book ≡ gives n → n .lots ≤ lot → lotCosts book lot ≡ []
+  -- the printing program: on all files it prints a text that ends with a newline
+  pub prints : (bookFile amountsFile : List ℕ) → (front : List ℕ) × (printed bookFile amountsFile ≡ front ++ (10 ∷ []))
+
+-- "A book is readable if none of the refusals listed for a book under Refused applies to it" (document 01, Words)
+abbrev pub Readable : List ℕ → Type 0
+Readable book = (n : Size) × (readBook book ≡ gives n)
+
+-- the limits of document 01, Words, and "Largest book: 4,231 bytes"
+pub record BookLimits (book : List ℕ) (n : Size) : Type 0 where
+  pub its-lots : problemOf book .lots ≡ n .lots
+  pub its-calls : problemOf book .calls ≡ n .calls
+  pub lots : (1 ≤ n .lots) × (n .lots ≤ 32)
+  pub calls : (1 ≤ n .calls) × (n .calls ≤ 32)
+  pub costs : (i j : ℕ) → Eligible (problemOf book) i j → problemOf book .cost i j ≤ costLimit
+  pub pairs : size (problemOf book) ≤ 1024
+  pub bytes : length book ≤ 4231
+
+-- an order file with the right opening and length; which pairs it holds is another question
+pub record OrderShaped (order : List ℕ) : Type 0 where
+  pub opening : readOpening orderMark order ≡ gives tt
+  pub whole : length order ≡ 7 + 2 * orderCount order
+
+-- an order file of a readable book that holds an order of the eligible pairs, which is a Monge sequence of the book
+pub record Passing (book order : List ℕ) : Type 0 where
+  pub readable : Readable book
+  pub shaped : OrderShaped order
+  pub each-once : OrderOf (problemOf book) (orderPairs order)
+  pub monge : Monge (problemOf book) (orderPairs order)
+
+-- "the sums over the flow written" (document 01, Running an order): units
+abbrev pub flowUnits : Problem → List ℕ → ℕ
+flowUnits P flow = sum (P .lots) (λ i. sum (P .calls) (λ j. getD flow (i * P .calls + j) 0))
+
+-- and cost
+abbrev pub flowCost : Problem → List ℕ → ℕ
+flowCost P flow = sum (P .lots) (λ i. sum (P .calls) (λ j. getD flow (i * P .calls + j) 0 * P .cost i j))
+
+-- what an accepted run writes and replies, x being GREEDY's units of each pair
+pub record Ran (P : Problem) (x : ℕ → ℕ → ℕ) (before after : List ℕ) (o : Outcome) : Type 0 where
+  -- "a run's flow .. [is] .. their GREEDY['s]"
+  pub flow : (i j : ℕ) → i < P .lots → j < P .calls → getD after (i * P .calls + j) 0 ≡ x i j
+  -- "0 if not eligible" (document 01)
+  pub not-eligible : (i j : ℕ) → (Eligible P i j → ⊥) → x i j ≡ 0
+  -- "entries from n times m on keep their contents" (document 01), and there are as many as before
+  pub kept : (k : ℕ) → getD after (P .lots * P .calls + k) 0 ≡ getD before (P .lots * P .calls + k) 0
+  pub as-many : length after ≡ length before
+  -- "units and cost are those of their GREEDY"
+  pub its-units : o .units ≡ units P x
+  pub its-cost : o .cost ≡ totalCost P x
+  -- and "the sums over the flow written"
+  pub units-of-flow : o .units ≡ flowUnits P after
+  pub cost-of-flow : o .cost ≡ flowCost P after
+
+-- Demand 2
+pub record Demand2 : Type 0 where
+  -- "Book, order and amounts are read as document 01 lays out": Book, OrderFile and Amounts of this folder are that lay-out. A book
+  -- that is read is within the limits
+  pub book-limits : (book : List ℕ) (n : Size) → readBook book ≡ gives n → BookLimits book n
+  -- "The costs of a lot are handed back as that stretch" (document 01): the cost of (i, j) stands behind those of the lower set bits
+  pub lot-costs : (book : List ℕ) (n : Size) → readBook book ≡ gives n → (i j : ℕ) → Eligible (problemOf book) i j
+      → u32At (lotCosts book i) (4 * ones (rowWord (rowAt book i) % 2 ^ j)) ≡ problemOf book .cost i j
+  -- amounts that are read have n and m of their book and are within the limits
+  pub amounts-limits : (book amounts : List ℕ) (n : Size) → readAmounts book amounts ≡ gives n
+      → (readBook book ≡ gives n) × Within amountLimit (problemOf book) (lotAmount amounts) (callAmount book amounts)
+  -- the order file of a list has the right opening and length, and its pairs are the list
+  pub order-back : (S : List Pair) → OrderShaped (orderFile S) × (orderPairs (orderFile S) ≡ S)
+  -- "an order passes exactly when it is a Monge sequence of the book as Adler, Hoffman and Shamir define it": when
+  pub passes : (book order : List ℕ) → Passing book order → checkOrder book order ≡ gives (orderCount order)
+  -- and only when
+  pub only-these : (book order : List ℕ) (n : ℕ) → checkOrder book order ≡ gives n → Passing book order
+  -- "a run's flow, units and cost are those of their GREEDY"
+  pub runs : (book order amounts flow : List ℕ) (o : Outcome) → runOrder book order amounts flow ≡ gives o
+      → Ran (problemOf book) (greedyOn book (orderPairs order) amounts .given) flow (runFlow book order amounts flow) o
+  -- "an order written by the finder passes when read back"
+  pub read-back : (book buffer : List ℕ) (n : ℕ) → findOrder book buffer ≡ gives n
+      → checkOrder book (take n (findBuffer book buffer)) ≡ gives (size (problemOf book))
+  -- finding and running in one call "replies and writes as the run by the order found" (document 01)
+  pub find-and-run : (book buffer : List ℕ) (n : ℕ) → findOrder book buffer ≡ gives n → (amounts flow : List ℕ)
+      → (findAndRun book amounts flow ≡ runOrder book (take n (findBuffer book buffer)) amounts flow)
+      × (findAndRunFlow book amounts flow ≡ runFlow book (take n (findBuffer book buffer)) amounts flow)
+
+-- "An order of the eligible pairs is good if, for all amounts of equal total within the limits, GREEDY by it meets everything whenever
+-- some allocation does, and every other allocation that meets everything costs at least as much" (`Good`, in transport)
+abbrev pub GoodOrder : List ℕ → List Pair → Type 0
+GoodOrder book S = OrderOf (problemOf book) S × Good amountLimit (problemOf book) S
+
+-- "the order file that the finder wrote, which ends at the length it replied" (document 01, Words)
+abbrev pub returned : List ℕ → List ℕ → List ℕ
+returned book buffer = take (orderLength book) (findBuffer book buffer)
+
+-- what holds of the returned order, and of every run of the book by it
+pub record ByReturned (book order : List ℕ) : Type 0 where
+  -- "The returned order is good"
+  pub good : GoodOrder book (orderPairs order)
+  -- "Whatever the amounts within the limits, totals equal or not, every other allocation has at most as many units as GREEDY by it"
+  pub most-units : (a b : ℕ → ℕ) → Within amountLimit (problemOf book) a b → (x : ℕ → ℕ → ℕ) → Allocation (problemOf book) a b x
+      → units (problemOf book) x ≤ units (problemOf book) (greedy (orderPairs order) a b .given)
+  -- "A run of the book by it is refused only for its amounts or its flow buffer"
+  pub refused-only : (amounts flow : List ℕ) (k : ℕ) (vs : List ℕ) → runOrder book order amounts flow ≡ refuses k vs
+      → (readAmounts book amounts ≡ refuses k vs) ⊎ ((k ≡ 17) × (length flow < problemOf book .lots * problemOf book .calls))
+  -- "otherwise it replies GREEDY's units and cost"
+  pub units-and-cost : (amounts flow : List ℕ) (o : Outcome) → runOrder book order amounts flow ≡ gives o
+      → (o .units ≡ units (problemOf book) (greedyOn book (orderPairs order) amounts .given))
+      × (o .cost ≡ totalCost (problemOf book) (greedyOn book (orderPairs order) amounts .given))
+  -- "and says Full exactly when some allocation meets everything": when
+  pub full-if : (amounts flow : List ℕ) (o : Outcome) → runOrder book order amounts flow ≡ gives o
+      → (x : ℕ → ℕ → ℕ) → Meets (problemOf book) (lotAmount amounts) (callAmount book amounts) x → o .verdict ≡ full
+  -- and only when
+  pub full-only-if : (amounts flow : List ℕ) (o : Outcome) → runOrder book order amounts flow ≡ gives o
+      → o .verdict ≡ full → (x : ℕ → ℕ → ℕ) × Meets (problemOf book) (lotAmount amounts) (callAmount book amounts) x
+  -- "The cost of meeting everything is least": in the run's own reply
+  pub least-cost : (amounts flow : List ℕ) (o : Outcome) → runOrder book order amounts flow ≡ gives o
+      → (x : ℕ → ℕ → ℕ) → Meets (problemOf book) (lotAmount amounts) (callAmount book amounts) x → o .cost ≤ totalCost (problemOf book) x
+  -- "and the unit count greatest"
+  pub greatest-units : (amounts flow : List ℕ) (o : Outcome) → runOrder book order amounts flow ≡ gives o
+      → (x : ℕ → ℕ → ℕ) → Allocation (problemOf book) (lotAmount amounts) (callAmount book amounts) x → units (problemOf book) x ≤ o .units
+
+-- Demand 3
+pub record Demand3 : Type 0 where
+  -- "For every readable book the finder, given a long enough buffer, returns an order exactly when some order of the eligible pairs is
+  -- good": when; only when, since the returned order is one
+  pub finds : (book buffer : List ℕ) → Readable book → orderLength book ≤ length buffer
+      → (S : List Pair) → GoodOrder book S → findOrder book buffer ≡ gives (orderLength book)
+  -- "and replies 13 otherwise"
+  pub or-13 : (book buffer : List ℕ) → Readable book → orderLength book ≤ length buffer
+      → ((S : List Pair) → GoodOrder book S → ⊥) → findOrder book buffer ≡ refuses 13 []
+  -- there is no third reply
+  pub one-of-two : (book buffer : List ℕ) → Readable book → orderLength book ≤ length buffer
+      → (findOrder book buffer ≡ gives (orderLength book)) ⊎ (findOrder book buffer ≡ refuses 13 [])
+  -- the returned order
+  pub by-returned : (book buffer : List ℕ) (n : ℕ) → findOrder book buffer ≡ gives n
+      → (n ≡ orderLength book) × ByReturned book (returned book buffer)

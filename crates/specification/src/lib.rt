@@ -1,0 +1,70 @@
+// The words of document 01 as types: lot and call numbers, the refusals, and the answer of each entry point.
+
+// "A lot is known by its lot number .. counted from 0" (Words).
+pub struct Lot(pub usize);
+
+// "and a call by its call number" (Words).
+pub struct Call(pub usize);
+
+// The causes of the table under "Refused", in its order, with the values that it returns beside the number.
+pub enum Refusal {
+    // 1: file under 7 bytes
+    UnderSeven,
+    // 2: mark differs
+    MarkDiffers,
+    // 3: version not 1
+    VersionNotOne,
+    // 4: book's n or m is 0 or above 32
+    CountOutside,
+    // 5: eligibility bit m or higher set; lot
+    BitOutside(Lot),
+    // 6: file ends before its last field
+    EndsEarly,
+    // 7: cost above 1,000,000; lot, call
+    CostTooHigh(Lot, Call),
+    // 8: bytes after the last field
+    BytesAfter,
+    // 9: order's pair not in the book or not eligible; place in order
+    PairNotEligible(usize),
+    // 10: pair met before in the order; its second place
+    PairMetBefore(usize),
+    // 11: (k, l) not eligible; i, j, k, l
+    CrossNotEligible(Lot, Call, Lot, Call),
+    // 12: cost sum too high; i, j, k, l
+    CrossSumTooHigh(Lot, Call, Lot, Call),
+    // 13: no order exists
+    NoOrder,
+    // 14: an eligible pair missing from the order
+    PairMissing,
+    // 15: amounts' n or m differ from the book's
+    CountsDiffer,
+    // 16: amount above 1,000,000,000
+    AmountTooHigh,
+    // 17: lent buffer too short
+    BufferTooShort,
+}
+
+// "Reading a book, or amounts with their book, replies n and m" (The three files).
+pub enum Counts {
+    Are(usize, usize),
+    Refused(Refusal),
+}
+
+// "An order that passes gets its count of pairs as the reply" (Checking an order).
+pub enum Checked {
+    Passes(usize),
+    Refused(Refusal),
+}
+
+// "The answer is Full (units, cost) if nothing is left in any lot or call, else Short (units, cost)" (Running an order).
+pub enum Placed {
+    Full(u64, u64),
+    Short(u64, u64),
+    Refused(Refusal),
+}
+
+// The finder "replies with the file's length" (Finding an order).
+pub enum Found {
+    Length(usize),
+    Refused(Refusal),
+}
