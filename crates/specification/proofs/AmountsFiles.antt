@@ -27,16 +27,8 @@ use Rattle.specification.proofs.Replies.{
   says-unless,
   test-of-twice-not,
 }
-use Rattle.specification.proofs.Books.{
-  Opened,
-  OpeningRefused,
-  opening-says,
-  opened-not-refused,
-  BookRead,
-  BookRefused,
-  book-says,
-  book-reads,
-}
+use Rattle.specification.proofs.Rows.{Opened, OpeningRefused, opening-says, opened-not-refused}
+use Rattle.specification.proofs.Books.{BookRead, BookRefused, book-says, book-reads}
 
 pub record AmountsRead (size : Size) (s : List ℕ) : Type 0 where
   pub opened : Opened amountsMark s

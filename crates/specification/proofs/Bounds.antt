@@ -2,26 +2,28 @@
 -- most 1,000,000. So 64 bits hold units and cost, and no number that is printed has more than 17 digits.
 use mathlib.Core.Path.{_≡_, sym, _∙_}
 use mathlib.Core.Logic.{by-cases}
-use mathlib.Core.List.{List}
+use mathlib.Core.List.{List, []}
 use Prim.Native.Nat.{ℕ, _*_, _≤_}
-use native.Mathlib.Nat.{mul-le-mul-left}
+use native.Mathlib.Nat.{mul-le-mul-left, mul-le-mul}
 use native.Mathlib.Omega.{arith}
+use lib.ListN.{replicate, length-replicate}
 use Rattle.transport.specs.Problem.{Problem, Eligible, sum, lotSum, units, totalCost, Allocation, Within}
 use Rattle.transport.proofs.Laws.Sums.{sum-mono, sum-cong, sum-le, sum-scale}
 use Rattle.transport.proofs.Laws.Sets.{eligible?}
 use Rattle.transport.proofs.Orders.Lists.{lists-of-order}
 use Rattle.transport.proofs.Greedy.Given.{greedy-allocation}
-use Rattle.specification.specs.Reply.{gives, Outcome}
+use Rattle.specification.specs.Reply.{gives, refuses, Size, Outcome}
 use Rattle.specification.specs.Book.{costLimit, problemOf}
 use Rattle.specification.specs.Amounts.{amountLimit, lotAmount, callAmount}
 use Rattle.specification.specs.OrderFile.{orderFile}
 use Rattle.specification.specs.Run.{runOrder}
 use Rattle.specification.specs.Find.{findAndRun}
-use Rattle.specification.proofs.Replies.{said-of-given}
-use Rattle.specification.proofs.Books.{problem-within, cost-within}
-use Rattle.specification.proofs.AmountsFiles.{amounts-within}
+use Rattle.specification.proofs.Replies.{said-of-given, said-of-refused}
+use Rattle.specification.proofs.Books.{BookRead, problem-within, cost-within}
+use Rattle.specification.proofs.AmountsFiles.{amounts-read, amounts-within}
+use Rattle.specification.proofs.Lines.{amounts-in-table}
 use Rattle.specification.proofs.Runs.{run-says}
-use Rattle.specification.proofs.FindRuns.{find-and-run-says, find-and-run-is-run}
+use Rattle.specification.proofs.FindRuns.{FindRunRefused, of-amounts, flow-too-short, find-and-run-says, find-and-run-is-run}
 
 module _ (P : Problem) (lots : P .lots ≤ 32) (costs : (i j : ℕ) → Eligible P i j → P .cost i j ≤ costLimit)
     (a b : ℕ → ℕ) (within : Within amountLimit P a b) (x : ℕ → ℕ → ℕ) (allocation : Allocation P a b x) where
@@ -68,3 +70,15 @@ pub find-and-run-within : (book amounts flow : List ℕ) (o : Outcome) → findA
 find-and-run-within book amounts flow o e =
     let (S, found, _) = said-of-given (find-and-run-says book amounts flow) o e in
     run-within book (orderFile S) amounts flow o (sym (find-and-run-is-run book amounts flow S found .0) ∙ e)
+
+-- 1,024 flow entries are enough for every book: the printing program never meets 17
+cells-within : {book : List ℕ} {n : Size} → BookRead book n → problemOf book .lots * problemOf book .calls ≤ 1024
+cells-within read = mul-le-mul (problem-within read .1) (problem-within read .3)
+
+pub printing-not-17 : (book amounts : List ℕ) → findAndRun book amounts (replicate 1024 0) ≡ refuses 17 [] → ⊥
+printing-not-17 book amounts e = by-cause (said-of-refused (find-and-run-says book amounts (replicate 1024 0)) 17 [] e)
+  where
+    by-cause : FindRunRefused book amounts (replicate 1024 0) 17 [] → ⊥
+    by-cause (of-amounts q refused) = omega (arith, amounts-in-table q .1)
+    by-cause (flow-too-short {n} reads h) =
+        omega (arith, cells-within (amounts-read book amounts n reads .0), length-replicate {A = ℕ} 1024 0)

@@ -10,7 +10,8 @@ use lib.Dec.{ltb, ltb→lt, nltb→le}
 use lib.ListN.{length}
 use Rattle.transport.specs.Problem.{Problem}
 use Rattle.transport.specs.Greedy.{Pair}
-use Rattle.transport.proofs.Orders.Lists.{lists-of-order}
+use Rattle.transport.specs.Order.{OrderOf}
+use Rattle.transport.proofs.Orders.Lists.{Lists, lists-of-order}
 use Rattle.specification.specs.declared.Refusal.the-variants as refusal
 use Rattle.specification.specs.Reply.{gives, refuses}
 use Rattle.specification.specs.Bytes.{orderMark, readOpening}
@@ -31,13 +32,8 @@ use Rattle.specification.proofs.Replies.{
   says-unless,
   test-of-twice-not,
 }
-use Rattle.specification.proofs.Books.{
-  OpeningRefused,
-  opening-says,
-  BookRefused,
-  book-says,
-  admitted-inside,
-}
+use Rattle.specification.proofs.Rows.{OpeningRefused, opening-says}
+use Rattle.specification.proofs.Books.{BookRefused, book-says, admitted-inside}
 use Rattle.specification.proofs.Lines.{opening-in-table, book-in-table}
 use Rattle.specification.proofs.Holding.{
   NotEligibleAt,
@@ -75,8 +71,9 @@ pub data FilesRefused (book order : List ℕ) : ℕ → List ℕ → Type 0 wher
 pub data CheckRefused (book order : List ℕ) : ℕ → List ℕ → Type 0 where
   of-files : {k : ℕ} {vs : List ℕ} → FilesRefused book order k vs → CheckRefused book order k vs
   of-holding : {k : ℕ} {vs : List ℕ} → HoldingRefused (problemOf book) (orderPairs order) k vs → CheckRefused book order k vs
-  of-missing : Missing (problemOf book) (orderPairs order) → CheckRefused book order 14 []
-  of-crossing : {k : ℕ} {vs : List ℕ} → CrossRefused (problemOf book) (orderPairs order) k vs → CheckRefused book order k vs
+  of-missing : Lists (problemOf book) (orderPairs order) → Missing (problemOf book) (orderPairs order) → CheckRefused book order 14 []
+  of-crossing : {k : ℕ} {vs : List ℕ} → OrderOf (problemOf book) (orderPairs order)
+      → CrossRefused (problemOf book) (orderPairs order) k vs → CheckRefused book order k vs
 
 module _ (book order : List ℕ) where
   pub check-says : Says (λ n. (n ≡ orderCount order) × Passing book order) (CheckRefused book order) (checkOrder book order)
@@ -90,9 +87,9 @@ module _ (book order : List ℕ) where
       says-unless (ltb (length order) (7 + 2 * orderCount order)) 6 _ _ (λ t. of-files (ends-early (ltb→lt _ _ t))) (λ long.
       says-unless (ltb (7 + 2 * orderCount order) (length order)) 8 _ _ (λ t. of-files (bytes-after (ltb→lt _ _ t))) (λ short.
       says-then _ (holding-says P inside S) (λ k vs. of-holding) (λ _ lists.
-      says-unless (not (complete P S)) 14 _ _ (λ t. of-missing (missing-if-incomplete P S t)) (λ all.
-      says-then _ (crossing-says P inside S) (λ k vs. of-crossing) (λ _ hold.
+      says-unless (not (complete P S)) 14 _ _ (λ t. of-missing lists (missing-if-incomplete P S t)) (λ all.
       let each-once = order-if-all-stand P S lists (complete-exactly P S .0 (test-of-twice-not (complete P S) all)) in
+      says-then _ (crossing-says P inside S) (λ k vs. of-crossing each-once) (λ _ hold.
       giving (
         refl,
         record {
@@ -110,8 +107,8 @@ module _ (book order : List ℕ) where
   passing-not-refused passing k vs (of-files (ends-early h)) = omega (arith, passing .shaped .whole)
   passing-not-refused passing k vs (of-files (bytes-after h)) = omega (arith, passing .shaped .whole)
   passing-not-refused passing k vs (of-holding q) = lists-never-refused (lists-of-order (passing .each-once)) k vs q
-  passing-not-refused passing k vs (of-missing m) = order-misses-nothing (problemOf book) (orderPairs order) (passing .each-once) m
-  passing-not-refused passing k vs (of-crossing q) =
+  passing-not-refused passing k vs (of-missing lists m) = order-misses-nothing (problemOf book) (orderPairs order) (passing .each-once) m
+  passing-not-refused passing k vs (of-crossing each-once q) =
       hold-never-crossed (monge-exactly (passing .each-once) .1 (passing .monge)) k vs q
 
   -- the check passes exactly these
@@ -137,10 +134,10 @@ pub check-in-table : {book order : List ℕ} {k : ℕ} {vs : List ℕ} → Check
 check-in-table (of-files q) = let (line, low) = files-in-table q in (line, omega arith)
 check-in-table (of-holding (not-eligible {place} at)) = ((refusal.PairNotEligible place, refl, refl), omega arith)
 check-in-table (of-holding (met-before {place} at)) = ((refusal.PairMetBefore place, refl, refl), omega arith)
-check-in-table (of-missing missing) = ((refusal.PairMissing, refl, refl), omega arith)
-check-in-table (of-crossing (cross-not-eligible {i} {j} {k} {l} at)) =
+check-in-table (of-missing lists missing) = ((refusal.PairMissing, refl, refl), omega arith)
+check-in-table (of-crossing each-once (cross-not-eligible {i} {j} {k} {l} at)) =
     ((refusal.CrossNotEligible (record { 0 = i }) (record { 0 = j }) (record { 0 = k }) (record { 0 = l }), refl, refl), omega arith)
-check-in-table (of-crossing (cross-sum-too-high {i} {j} {k} {l} at)) =
+check-in-table (of-crossing each-once (cross-sum-too-high {i} {j} {k} {l} at)) =
     ((refusal.CrossSumTooHigh (record { 0 = i }) (record { 0 = j }) (record { 0 = k }) (record { 0 = l }), refl, refl), omega arith)
 
 -- The refusals of the check's own, one by one.
@@ -161,27 +158,32 @@ module _ (book order : List ℕ) where
       of-it (of-files q) = absurd (omega (arith, files-in-table q .1))
       of-it (of-holding (met-before at)) = at
 
-  -- an eligible pair is missing
-  pub refused-14 : checkOrder book order ≡ refuses 14 [] → Missing (problemOf book) (orderPairs order)
+  -- of the eligible pairs, of which none stands twice, one is missing
+  pub refused-14 : checkOrder book order ≡ refuses 14 []
+      → Lists (problemOf book) (orderPairs order) × Missing (problemOf book) (orderPairs order)
   refused-14 e = of-it (check-refused book order 14 [] e)
     where
-      of-it : CheckRefused book order 14 [] → Missing (problemOf book) (orderPairs order)
+      of-it : CheckRefused book order 14 [] → Lists (problemOf book) (orderPairs order) × Missing (problemOf book) (orderPairs order)
       of-it (of-files q) = absurd (omega (arith, files-in-table q .1))
-      of-it (of-missing missing) = missing
+      of-it (of-missing lists missing) = (lists, missing)
 
   module _ (i j k l : ℕ) where
-    -- the first quadruple that fails has (k, l) not eligible
-    pub refused-11 : checkOrder book order ≡ refuses 11 (i ∷ j ∷ k ∷ l ∷ []) → CrossNotEligible (problemOf book) (orderPairs order) i j k l
+    -- of an order of the eligible pairs, the first quadruple that fails has (k, l) not eligible
+    pub refused-11 : checkOrder book order ≡ refuses 11 (i ∷ j ∷ k ∷ l ∷ [])
+        → OrderOf (problemOf book) (orderPairs order) × CrossNotEligible (problemOf book) (orderPairs order) i j k l
     refused-11 e = of-it (check-refused book order 11 (i ∷ j ∷ k ∷ l ∷ []) e)
       where
-        of-it : CheckRefused book order 11 (i ∷ j ∷ k ∷ l ∷ []) → CrossNotEligible (problemOf book) (orderPairs order) i j k l
+        of-it : CheckRefused book order 11 (i ∷ j ∷ k ∷ l ∷ [])
+            → OrderOf (problemOf book) (orderPairs order) × CrossNotEligible (problemOf book) (orderPairs order) i j k l
         of-it (of-files q) = absurd (omega (arith, files-in-table q .1))
-        of-it (of-crossing (cross-not-eligible at)) = at
+        of-it (of-crossing each-once (cross-not-eligible at)) = (each-once, at)
 
-    -- the first quadruple that fails has (k, l) eligible, and the cost sum is too high
-    pub refused-12 : checkOrder book order ≡ refuses 12 (i ∷ j ∷ k ∷ l ∷ []) → CrossSumTooHigh (problemOf book) (orderPairs order) i j k l
+    -- it has (k, l) eligible, and the cost sum is too high
+    pub refused-12 : checkOrder book order ≡ refuses 12 (i ∷ j ∷ k ∷ l ∷ [])
+        → OrderOf (problemOf book) (orderPairs order) × CrossSumTooHigh (problemOf book) (orderPairs order) i j k l
     refused-12 e = of-it (check-refused book order 12 (i ∷ j ∷ k ∷ l ∷ []) e)
       where
-        of-it : CheckRefused book order 12 (i ∷ j ∷ k ∷ l ∷ []) → CrossSumTooHigh (problemOf book) (orderPairs order) i j k l
+        of-it : CheckRefused book order 12 (i ∷ j ∷ k ∷ l ∷ [])
+            → OrderOf (problemOf book) (orderPairs order) × CrossSumTooHigh (problemOf book) (orderPairs order) i j k l
         of-it (of-files q) = absurd (omega (arith, files-in-table q .1))
-        of-it (of-crossing (cross-sum-too-high at)) = at
+        of-it (of-crossing each-once (cross-sum-too-high at)) = (each-once, at)

@@ -3,6 +3,7 @@ pub mod Refusals
 pub mod Replies
 pub mod Numbers
 pub mod Bits
+pub mod Rows
 pub mod Books
 pub mod LotCosts
 pub mod AmountsFiles

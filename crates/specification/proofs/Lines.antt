@@ -6,8 +6,8 @@ use native.Mathlib.Omega.{arith}
 use Rattle.specification.specs.declared.Refusal.the-variants as refusal
 use Rattle.specification.specs.Reply.{Size}
 use Rattle.specification.proofs.Replies.{UpTo}
-use Rattle.specification.proofs.Books.{OpeningRefused, under-seven, mark-differs, version-not-one}
-use Rattle.specification.proofs.Books.{RowRefused, word-cut, bit-outside, costs-cut, cost-too-high}
+use Rattle.specification.proofs.Rows.{OpeningRefused, under-seven, mark-differs, version-not-one}
+use Rattle.specification.proofs.Rows.{RowRefused, word-cut, bit-outside, costs-cut, cost-too-high}
 use Rattle.specification.proofs.Books.{BookRefused, book-opening, count-outside, book-row, book-bytes-after}
 use Rattle.specification.proofs.AmountsFiles.{AmountsRefused, amounts-opening, counts-differ, amounts-end-early}
 use Rattle.specification.proofs.AmountsFiles.{amounts-bytes-after, amount-too-high, AmountsOrBookRefused, amounts-book, amounts-own}
@@ -28,8 +28,8 @@ row-in-table {row} {lot} (cost-too-high {j} below whole lower h set high) =
 pub book-in-table : {book : List ℕ} {k : ℕ} {vs : List ℕ} → BookRefused book k vs → UpTo 8 k vs
 book-in-table (book-opening q) = opening-in-table q
 book-in-table (count-outside opened outside) = ((refusal.CountOutside, refl, refl), omega arith)
-book-in-table (book-row lots calls h before q) = row-in-table q
-book-in-table (book-bytes-after rows h) = ((refusal.BytesAfter, refl, refl), omega arith)
+book-in-table (book-row headed h before q) = row-in-table q
+book-in-table (book-bytes-after headed rows h) = ((refusal.BytesAfter, refl, refl), omega arith)
 
 -- amounts: with a number up to 16
 own-in-table : {size : Size} {s : List ℕ} {k : ℕ} {vs : List ℕ} → AmountsRefused size s k vs → UpTo 16 k vs

@@ -14,7 +14,7 @@ use Rattle.specification.specs.Bytes.{byteAt, u16At, orderMark}
 use Rattle.specification.specs.OrderFile.{orderCount, pairs, orderPairs, pairBytes, orderFile}
 use Rattle.specification.specs.Demands.{OrderShaped}
 use Rattle.specification.proofs.Replies.{gives-if-never-refused}
-use Rattle.specification.proofs.Books.{Opened, opening-says, opened-not-refused}
+use Rattle.specification.proofs.Rows.{Opened, opening-says, opened-not-refused}
 
 pub pairs-back : (S : List Pair) → pairs (length S) (pairBytes S) ≡ S
 unfolding pairs pairBytes

@@ -1,0 +1,62 @@
+-- `amounts::inner::amounts_from` meets its contract. The invariant: the entries passed are the file's.
+use mathlib.Core.Path.{_≡_, refl, _∙_}
+use mathlib.Core.List.{List}
+use Prim.Native.Nat.{ℕ, _+_, _≤_, _<_, _-_}
+use native.Mathlib.Omega.{arith}
+use lib.ListN.{length, getD, set, length-set}
+use lib.Seq.{getD-set-same, getD-set-other}
+use borrow.Author.Needs.{needs}
+use borrow.Author.Count.{below-none, below-more}
+use Rattle.specification.specs.Amounts.{amountAt}
+use Rattle.amounts.proofs.inner.amounts_from.Statement.{statement}
+use Rattle.amounts.proofs.inner.amounts_from.Tie as tie
+
+abbrev Inv-loop : tie.InvT-loop
+Inv-loop amounts first count out₀ k₀ out k =
+    (k ≤ count) × (length out ≡ 32) × ((i : ℕ) → i < k → getD out i 0 ≡ amountAt amounts (first + i))
+
+abbrev μ-loop : tie.MeasureT-loop
+μ-loop amounts first count out₀ k₀ out k = count - k
+
+-- an array that shows a function below k shows it below k + 1 once its value at k is stored there
+shows-more : (l : List ℕ) (f : ℕ → ℕ) (k v : ℕ) → k < length l → ((i : ℕ) → i < k → getD l i 0 ≡ f i) → v ≡ f k
+    → (i : ℕ) → i < k + 1 → getD (set l k v) i 0 ≡ f i
+shows-more l f k v hk h e =
+    below-more _ k
+    (λ i hi. getD-set-other l k i v 0 (λ (q : i ≡ k). omega arith) ∙ h i hi)
+    (getD-set-same l k v 0 hk ∙ e)
+
+loop-holds : tie.Need-loop-holds Inv-loop μ-loop
+loop-holds c = (omega arith, refl, below-none _)
+
+loop-again : tie.Need-loop-again Inv-loop μ-loop
+loop-again c =
+    let l = c .before .before .loop in
+    let start = c .before .before .before .before in (
+      omega arith,
+      simp length-set (l .inv .1),
+      shows-more (l .out) (λ i. amountAt (start .args .amounts .now) (start .args .first + i)) (l .k) _ (omega arith) (l .inv .2)
+          (c .u32-at .ensures),
+    )
+
+returns : tie.Need-returns Inv-loop μ-loop
+returns c = λ k l. c .before .loop .inv .2 k (omega arith)
+
+pub amounts-from-spec : {M : Type 1} → statement M
+amounts-from-spec =
+    tie.close
+    (tie.spec
+    Inv-loop
+    μ-loop
+    loop-holds
+    (λ c. search needs)
+    (λ c. search needs)
+    (λ c. search needs)
+    (λ c κs. search needs)
+    (λ c. search needs)
+    (λ c. search needs)
+    (λ c. search needs)
+    (λ c. search needs)
+    (λ c. search needs)
+    loop-again
+    returns)

@@ -1,0 +1,66 @@
+// The amounts file for a book that was read: told its n and m.
+use files::Step;
+use specification::Counts;
+use specification::Refusal;
+ghost use mathlib.Core.Path.{_≡_};
+ghost use Prim.Native.Nat.{ℕ, _+_, _<_, _≤_};
+ghost use lib.Dec.{leb};
+ghost use lib.ListN.{getD};
+ghost use Rattle.transport.specs.Finder.{every};
+ghost use Rattle.specification.specs.Reply.{statedCounts};
+ghost use Rattle.specification.specs.Amounts.{amountLimit, amountAt, readAmountsOf};
+
+// Whether none of the first so many amounts is above the limit.
+fn all_within(amounts: &[u8], count: usize) -> bool
+    requires { ⌜ count ≤ 64 ⌝ }
+    ensures { λ r. ⌜ r ≡ every count (λ k. leb (amountAt (now (amounts .entry)) k) amountLimit) ⌝ }
+{
+    for k in 0..count {
+        if 1_000_000_000 < files::u32_at(amounts, 7 + 4 * k) {
+            return false;
+        }
+    }
+    true
+}
+
+// The counts, or the refusal of the amounts.
+pub fn read_of(lots: usize, calls: usize, amounts: &[u8]) -> Counts
+    requires { ⌜ (lots ≤ 32) × (calls ≤ 32) ⌝ }
+    ensures { λ r. ⌜ statedCounts r ≡ readAmountsOf (record { lots = lots; calls = calls }) (now (amounts .entry)) ⌝ }
+{
+    let opening = files::read_opening(amounts, &files::AMOUNTS_MARK);
+    if let Step::Refused(r) = opening {
+        return Counts::Refused(r);
+    }
+    if files::u8_at(amounts, 5) as usize != lots {
+        return Counts::Refused(Refusal::CountsDiffer);
+    }
+    if files::u8_at(amounts, 6) as usize != calls {
+        return Counts::Refused(Refusal::CountsDiffer);
+    }
+    let size = 7 + 4 * (lots + calls);
+    if amounts.len() < size {
+        return Counts::Refused(Refusal::EndsEarly);
+    }
+    if size < amounts.len() {
+        return Counts::Refused(Refusal::BytesAfter);
+    }
+    if all_within(amounts, lots + calls) {
+        return Counts::Are(lots, calls);
+    }
+    Counts::Refused(Refusal::AmountTooHigh)
+}
+
+// So many amounts of the file, from the one numbered `first` on.
+pub fn amounts_from(amounts: &[u8], first: usize, count: usize) -> [u64; 32]
+    requires { ⌜ (first ≤ 32) × (count ≤ 32) ⌝ }
+    ensures { λ r. ⌜ ((k : ℕ) → k < count → getD r k 0 ≡ amountAt (now (amounts .entry)) (first + k)) ⌝ }
+{
+    let mut out = [0u64; 32];
+    let mut k: usize = 0;
+    while k < count {
+        out[k] = files::u32_at(amounts, 7 + 4 * (first + k)) as u64;
+        k += 1;
+    }
+    out
+}

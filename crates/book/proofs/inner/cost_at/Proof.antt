@@ -1,0 +1,34 @@
+-- `book::inner::cost_at` meets its contract.
+use borrow.Author.Needs.{needs}
+use native.Mathlib.Omega.{arith}
+use Rattle.specification.specs.Bytes.{u16At, u32At}
+use Rattle.book.proofs.inner.cost_at.Statement.{statement}
+use Rattle.book.proofs.inner.cost_at.Tie as tie
+
+returns : tie.Need-returns
+unfolding u32At u16At
+returns c = omega arith
+
+pub cost-at-spec : {M : Type 1} → statement M
+cost-at-spec =
+    tie.close
+    (tie.spec
+    (λ c. search needs)
+    (λ c κs. search needs)
+    (λ c. search needs)
+    (λ c. search needs)
+    (λ c κs. search needs)
+    (λ c. search needs)
+    (λ c. search needs)
+    (λ c. search needs)
+    (λ c. search needs)
+    (λ c κs. search needs)
+    (λ c. search needs)
+    (λ c. search needs)
+    (λ c. search needs)
+    (λ c. search needs)
+    (λ c. search needs)
+    (λ c κs. search needs)
+    (λ c. search needs)
+    (λ c. search needs)
+    returns)

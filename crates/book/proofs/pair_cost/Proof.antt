@@ -1,0 +1,121 @@
+-- `book::pair_cost` meets its contract: at each `return` the tests that led there say which case of `pairCost` holds.
+use borrow.Author.Needs.{needs}
+use borrow.Author.Tests.{lt-ltb, le-ltb}
+use mathlib.Core.Path.{_≡_, sym, ap, _∙_}
+use mathlib.Core.Bool.{Bool}
+use mathlib.Core.List.{List}
+use Prim.Native.Nat.{ℕ, _≤_, _<_}
+use native.Mathlib.Omega.{arith}
+use lib.ListN.{length}
+use Rattle.specification.specs.Reply.{gives, statedCounts}
+use Rattle.specification.specs.Book.{bookLots, readBook, problemOf}
+use Rattle.book.proofs.Readable.{Read, counts-are}
+use Rattle.book.proofs.Rows.{part-is-row, row-inside}
+use Rattle.book.proofs.pair_cost.Statement.{statement}
+use Rattle.book.proofs.pair_cost.Tie as tie
+
+-- the book is readable, and `lots` and `calls` are its counts
+module _ (c : tie.After-known-told) where
+  abbrev start : tie.Start
+  start = c .before .before .before .before .before
+
+  abbrev book : List ℕ
+  book = start .args .book .now
+
+  abbrev lots : ℕ
+  lots = c .before .counts .given .0 .0
+
+  abbrev calls : ℕ
+  calls = c .before .counts .given .0 .1 .0
+
+  gave : readBook book ≡ gives (record { lots = lots; calls = calls })
+  gave = sym (c .before .before .before .read-book .ensures) ∙ ap statedCounts (c .before .counts .given .1)
+
+  read : Read book lots calls
+  read = counts-are _ (sym gave)
+
+-- lot and call are within it
+module _ (c : tie.Else2) where
+  abbrev told : tie.After-known-told
+  told = c .before .before
+
+  lot-in : start told .args .lot .0 < bookLots (book told)
+  lot-in = rw (← read told .lots-is) (c .before .if1 .left)
+
+starts : (c : tie.After-row-at) → c .row-at .result ≤ length (book (told (c .before)))
+starts c =
+    let l = told (c .before) in
+    omega (arith, c .row-at .ensures, row-inside (read l .known) (start l .args .lot .0) (lot-in (c .before)))
+
+-- the pair is eligible where its bit is set
+admits-is : (c : tie.After-is-set) {b : Bool} → c .is-set .result ≡ b → (let l = told (c .before .before .before .before) in
+    problemOf (book l) .admits (start l .args .lot .0) (start l .args .call .0) ≡ b)
+unfolding problemOf
+admits-is c e =
+    let word = c .before in
+    let within = word .before .before .before in
+    let l = told within in
+    let row = part-is-row _ _ (word .before .before .row-at .ensures) in
+    simp (
+      lt-ltb _ _ (lot-in within),
+      lt-ltb _ _ (rw (read l .calls-is) at (within .if2 .left)),
+      sym (rw row at (word .u32-at .ensures)),
+      sym (c .is-set .ensures),
+    ) e
+
+returns : tie.Need-returns
+returns c = simp (c .refusal-of .ensures, c .before .enum-told .given .1, sym (c .before .before .before .read-book .ensures))
+
+returns-2 : tie.Need-returns-2
+returns-2 c = simp (gave (c .before), le-ltb _ _ (c .if1 .taken))
+
+returns-3 : tie.Need-returns-3
+returns-3 c = simp (gave (c .before .before), lt-ltb _ _ (c .before .if1 .left), le-ltb _ _ (c .if2 .taken))
+
+row-at-requires : tie.Need-row-at-requires
+row-at-requires c κs = (read (told c) .is-readable, lot-in c)
+
+returns-4 : tie.Need-returns-4
+unfolding problemOf
+returns-4 c =
+    let s = c .before .before in
+    let a = s .before .before .before in
+    let within = a .before in
+    simp (
+      gave (told within),
+      lt-ltb _ _ (within .before .if1 .left),
+      lt-ltb _ _ (within .if2 .left),
+      admits-is s (c .before .if3 .taken),
+      rw (part-is-row _ _ (a .row-at .ensures)) at (c .cost-in .ensures),
+    )
+
+returns-5 : tie.Need-returns-5
+returns-5 c =
+    let within = c .before .before .before .before .before in
+    simp (
+      gave (told within),
+      lt-ltb _ _ (within .before .if1 .left),
+      lt-ltb _ _ (within .if2 .left),
+      admits-is (c .before) (c .if3 .left),
+    )
+
+pub pair-cost-spec : {M : Type 1} → statement M
+pair-cost-spec =
+    tie.close
+    (tie.spec
+    (λ c κs. search needs)
+    (λ c. search needs)
+    (λ c. search needs)
+    (λ c κs. search needs)
+    returns
+    returns-2
+    returns-3
+    row-at-requires
+    (λ c. starts c)
+    (λ c. starts c)
+    (λ c. search needs)
+    (λ c κs. search needs)
+    (λ c κs. search needs)
+    (λ c κs. search needs)
+    returns-4
+    returns-5)

@@ -1,0 +1,57 @@
+-- The cost of a pair of a readable book, and the byte at which the book holds it.
+use mathlib.Core.List.{List}
+use mathlib.Core.Bool.{Bool, true, false, cond, _&&_}
+use Prim.Native.Nat.{ℕ, zero, suc, _+_, _*_, _/_, _%_, _^_}
+use lib.Dec.{ltb}
+use lib.Count.{ones}
+use Rattle.specification.specs.Reply.{Reply, gives, refuses, refused, _>>=_}
+use Rattle.specification.specs.Book.{rowWord, rowSize, readBook, rowAt, problemOf}
+use Rattle.specification.specs.Run.{tabulate}
+use Rattle.book.specs.declared.Cost.{Cost}
+use Rattle.book.specs.declared.Cost.the-variants.{Of, NotEligible, Outside, Refused}
+
+-- what a readable book says of a lot and a call: the pair's cost, that the pair is not eligible, or that one of the two is not in the book
+pub data PairCost : Type 0 where
+  costs : ℕ → PairCost
+  notEligible outside : PairCost
+
+abbrev pub statedCost : Cost → Reply PairCost
+statedCost (Of cost) = gives (costs cost)
+statedCost NotEligible = gives notEligible
+statedCost Outside = gives outside
+statedCost (Refused r) = refused r
+
+abbrev pub pairCost : List ℕ → ℕ → ℕ → Reply PairCost
+pairCost book i j = readBook book >>= λ size. gives (
+    cond (ltb i (size .lots) && ltb j (size .calls))
+    (cond (problemOf book .admits i j) (costs (problemOf book .cost i j)) notEligible)
+    outside)
+
+-- none of the refusals listed for a book applies
+abbrev pub given : {A : Type 0} → Reply A → Bool
+given (gives a) = true
+given (refuses k vs) = false
+
+abbrev pub readable : List ℕ → Bool
+readable book = given (readBook book)
+
+-- the book is readable and the pair eligible
+abbrev pub hasCost : List ℕ → ℕ → ℕ → Bool
+hasCost book i j = readable book && problemOf book .admits i j
+
+-- the byte at which the row of lot i starts
+unfoldable pub rowStart : List ℕ → ℕ → ℕ
+rowStart book zero = 7
+rowStart book (suc i) = rowStart book i + rowSize (rowAt book i)
+
+-- how many bits below bit j are set
+abbrev pub onesBelow : ℕ → ℕ → ℕ
+onesBelow word j = ones (word % 2 ^ j)
+
+-- the byte at which the book holds the cost of a pair, 0 where it has none
+abbrev pub costOffset : List ℕ → ℕ → ℕ → ℕ
+costOffset book i j = cond (hasCost book i j) (rowStart book i + (4 + 4 * onesBelow (rowWord (rowAt book i)) j)) 0
+
+-- entry 32 i + j of the table of 1,024 is the place of the cost of (i, j)
+abbrev pub offsetTable : List ℕ → List ℕ
+offsetTable book = tabulate 1024 (λ k. costOffset book (k / 32) (k % 32))

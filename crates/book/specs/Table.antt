@@ -1,0 +1,47 @@
+-- The transportation problem that a book and a table of offsets state. Entry 32 * lot + call of the table is the byte at which the book
+-- holds the pair's cost, and 0 where the pair is not eligible.
+use mathlib.Core.Path.{_≡_}
+use mathlib.Core.Bool.{Bool, cond, not, _&&_}
+use mathlib.Core.List.{List}
+use Prim.Native.Nat.{ℕ, _+_, _*_, _/_, _%_, _≤_, _<_}
+use lib.Dec.{ltb, eqb}
+use lib.ListN.{length, getD}
+use Rattle.transport.specs.Problem.{Problem}
+use Rattle.specification.specs.Bytes.{u32At}
+use Rattle.specification.specs.Book.{costLimit, bit}
+use Rattle.book.specs.Pairs.{onesBelow}
+
+-- what an array of 32 by 32 entries holds for two numbers below 32
+abbrev pub entry : List ℕ → ℕ → ℕ → ℕ
+entry xs i j = getD xs (32 * i + j) 0
+
+-- lot i and call j are among n and m, and the table has a place for their pair
+abbrev pub admitsBy : List ℕ → ℕ → ℕ → ℕ → ℕ → Bool
+admitsBy table n m i j = ltb i n && (ltb j m && not (eqb (entry table i j) 0))
+
+abbrev pub problemBy : List ℕ → List ℕ → ℕ → ℕ → Problem
+problemBy book table n m = record {
+  lots = n;
+  calls = m;
+  admits = admitsBy table n m;
+  cost = λ i j. u32At book (entry table i j);
+}
+
+-- what the table is to be: each entry is a place in the book, and the costs are within the limit
+pub record Tabled (book table : List ℕ) : Type 0 where
+  pub within : (k : ℕ) → k < 1024 → getD table k 0 + 4 ≤ length book
+  pub cheap : (k : ℕ) → k < 1024 → (getD table k 0 ≡ 0 → ⊥) → u32At book (getD table k 0) ≤ costLimit
+
+-- a pair that the table has an entry for
+pub record CanRead (book table : List ℕ) (i j : ℕ) : Type 0 where
+  pub tabled : Tabled book table
+  pub lot-in : i < 32
+  pub call-in : j < 32
+
+-- the table once the costs of lot i, of which the first stands at `at`, are entered: the places of its set bits, and else as before
+abbrev pub withRow : List ℕ → ℕ → ℕ → ℕ → ℕ → ℕ
+withRow table word i at k = cond (eqb (k / 32) i && bit word (k % 32)) (at + 4 * onesBelow word (k % 32)) (getD table k 0)
+
+pub record WithRow (table : List ℕ) (word i at : ℕ) (entered : List ℕ) : Type 0 where
+  pub long : length entered ≡ 1024
+  pub entries : (k : ℕ) → k < 1024 → getD entered k 0 ≡ withRow table word i at k

@@ -1,0 +1,100 @@
+// The places of the costs: a table by lot and call, made in one pass over the rows of a book that was read, and what it says of a pair.
+use specification::Call;
+use specification::Lot;
+ghost use mathlib.Core.Path.{_≡_};
+ghost use mathlib.Core.Bool.{true};
+ghost use Prim.Native.Nat.{_+_, _<_, _≤_};
+ghost use lib.ListN.{length};
+ghost use Rattle.specification.specs.Bytes.{u32At};
+ghost use Rattle.specification.specs.Book.{bookLots};
+ghost use Rattle.book.specs.Pairs.{readable, offsetTable};
+ghost use Rattle.book.specs.Table.{entry, admitsBy, CanRead, WithRow};
+
+// Enters the places of one lot's costs, of which the first stands at `at`.
+fn enter_row(table: &mut [u16; 1024], word: u32, lot: Lot, at: usize)
+    requires { ⌜ (length (now table) ≡ 1024) × (lot .0 < 32) × (at < 65000) ⌝ }
+    ensures { λ _. ⌜ WithRow (now (table .entry)) word (lot .0) at (now (table .exit)) ⌝ }
+{
+    let i = lot.0;
+    let base = 32 * i;
+    let mut next = at;
+    for j in 0..32 {
+        if super::word::is_set(word, j) {
+            table[base + j] = next as u16;
+            next += 4;
+        }
+    }
+}
+
+// The byte at which a readable book holds the cost of each pair, entry 32 times lot plus call; 0 where the pair is not eligible.
+pub fn offsets(book: &[u8], lots: usize) -> [u16; 1024]
+    requires { ⌜ (readable (now book) ≡ true) × (lots ≡ bookLots (now book)) ⌝ }
+    ensures { λ r. ⌜ r ≡ offsetTable (now (book .entry)) ⌝ }
+{
+    let mut table = [0u16; 1024];
+    let mut at = 7;
+    for i in 0..lots {
+        let row = &book[at..];
+        enter_row(&mut table, files::u32_at(row, 0), Lot(i), at + 4);
+        at += super::row::size(row);
+    }
+    table
+}
+
+// Numbers read through a reference come with no bound; as parameters they have their type's.
+fn wide(x: u16) -> usize
+    ensures { λ r. ⌜ r ≡ x ⌝ }
+{
+    x as usize
+}
+
+fn byte(x: u8) -> u32
+    ensures { λ r. ⌜ (r ≡ x) × (r < 256) ⌝ }
+{
+    x as u32
+}
+
+// What an array of 32 by 32 entries holds for a pair.
+pub fn entry_of(table: &[u16; 1024], lot: Lot, call: Call) -> usize
+    requires { ⌜ (lot .0 < 32) × (call .0 < 32) ⌝ }
+    ensures { λ r. ⌜ r ≡ entry (now (table .entry)) (lot .0) (call .0) ⌝ }
+{
+    let i = lot.0;
+    let j = call.0;
+    wide(table[32 * i + j])
+}
+
+// The 32-bit number at a place that the book has.
+pub fn cost_at(book: &[u8], at: usize) -> u32
+    requires { ⌜ at + 4 ≤ length (now book) ⌝ }
+    ensures { λ r. ⌜ r ≡ u32At (now (book .entry)) at ⌝ }
+{
+    byte(book[at])
+        + 256 * byte(book[at + 1])
+        + 65536 * byte(book[at + 2])
+        + 16777216 * byte(book[at + 2 + 1])
+}
+
+// The cost of a pair; of one that is not eligible, the number that opens the book.
+pub fn cost_of(book: &[u8], table: &[u16; 1024], lot: Lot, call: Call) -> u32
+    requires { ⌜ CanRead (now book) (now table) (lot .0) (call .0) ⌝ }
+    ensures { λ r. ⌜ r ≡ u32At (now (book .entry)) (entry (now (table .entry)) (lot .0) (call .0)) ⌝ }
+{
+    cost_at(book, entry_of(table, lot, call))
+}
+
+// Whether a pair is of the n lots and m calls and eligible.
+pub fn eligible(table: &[u16; 1024], n: usize, m: usize, lot: Lot, call: Call) -> bool
+    requires { ⌜ (n ≤ 32) × (m ≤ 32) ⌝ }
+    ensures { λ r. ⌜ r ≡ admitsBy (now (table .entry)) n m (lot .0) (call .0) ⌝ }
+{
+    let i = lot.0;
+    let j = call.0;
+    if i >= n {
+        return false;
+    }
+    if j >= m {
+        return false;
+    }
+    entry_of(table, lot, call) != 0
+}

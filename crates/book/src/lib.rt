@@ -1,0 +1,130 @@
+// The book file: reading it, the costs of one lot, and the cost of a pair.
+pub mod inner;
+mod row;
+mod word;
+
+use files::Step;
+use specification::Call;
+use specification::Counts;
+use specification::Lot;
+use specification::Refusal;
+ghost use mathlib.Core.Path.{_≡_};
+ghost use mathlib.Core.Bool.{true};
+ghost use Prim.Native.Nat.{_<_};
+ghost use Rattle.specification.specs.Reply.{statedCounts};
+ghost use Rattle.specification.specs.Book.{readRows, countOutside, readBook, bookLots, lotCosts};
+ghost use Rattle.files.specs.Files.{statedStep};
+ghost use Rattle.book.specs.Pairs.{statedCost, readable, rowStart, pairCost};
+
+// What a book says of a lot and a call: the pair's cost, that the pair is not eligible, or that the lot or the call is not in the book.
+pub enum Cost {
+    Of(u32),
+    NotEligible,
+    Outside,
+    Refused(Refusal),
+}
+
+// The rows of so many lots, from lot 0, in the part of the book that starts at its word; no byte may follow them.
+fn read_rows(rows: &[u8], lots: usize, calls: usize) -> Step
+    ensures { λ r. ⌜ statedStep r ≡ readRows (now (rows .entry)) 0 lots calls ⌝ }
+{
+    let mut at = 0;
+    for lot in 0..lots {
+        let row = &rows[at..];
+        let step = row::read_row(row, Lot(lot), calls);
+        if let Step::Refused(r) = step {
+            return Step::Refused(r);
+        }
+        at += row::size(row);
+    }
+    if at < rows.len() {
+        return Step::Refused(Refusal::BytesAfter);
+    }
+    Step::Passes
+}
+
+// Whether a count of lots or calls is 0 or above 32.
+fn is_outside(count: usize) -> bool
+    ensures { λ r. ⌜ r ≡ countOutside count ⌝ }
+{
+    count == 0 || 32 < count
+}
+
+// n and m of a readable book, or its refusal.
+pub fn read_book(book: &[u8]) -> Counts
+    ensures { λ r. ⌜ statedCounts r ≡ readBook (now (book .entry)) ⌝ }
+{
+    let opening = files::read_opening(book, &files::BOOK_MARK);
+    if let Step::Refused(r) = opening {
+        return Counts::Refused(r);
+    }
+    let lots = files::u8_at(book, 5) as usize;
+    let calls = files::u8_at(book, 6) as usize;
+    if is_outside(lots) {
+        return Counts::Refused(Refusal::CountOutside);
+    }
+    if is_outside(calls) {
+        return Counts::Refused(Refusal::CountOutside);
+    }
+    let rows = read_rows(&book[7..], lots, calls);
+    match rows {
+        Step::Passes => Counts::Are(lots, calls),
+        Step::Refused(r) => Counts::Refused(r),
+    }
+}
+
+// The byte at which a lot's row starts in a readable book.
+fn row_at(book: &[u8], lot: Lot) -> usize
+    requires { ⌜ (readable (now book) ≡ true) × (lot .0 < bookLots (now book)) ⌝ }
+    ensures { λ r. ⌜ r ≡ rowStart (now (book .entry)) (lot .0) ⌝ }
+{
+    let i = lot.0;
+    let mut at = 7;
+    for k in 0..i {
+        at += row::size(&book[at..]);
+    }
+    at
+}
+
+// The stretch of the book that holds a lot's costs; empty for a refused book and for a lot outside it.
+pub fn lot_costs(book: &[u8], lot: Lot) -> &[u8]
+    ensures { λ r. ⌜ now r ≡ lotCosts (now (book .entry)) (lot .0) ⌝ }
+{
+    let counts = read_book(book);
+    let Counts::Are(lots, _) = counts else {
+        return &book[..0];
+    };
+    let i = lot.0;
+    if lots <= i {
+        return &book[..0];
+    }
+    let at = row_at(book, lot);
+    let start = at + 4;
+    let end = at + row::size(&book[at..]);
+    &book[start..end]
+}
+
+// The cost of a pair, by lot number and call number.
+pub fn pair_cost(book: &[u8], lot: Lot, call: Call) -> Cost
+    ensures { λ r. ⌜ statedCost r ≡ pairCost (now (book .entry)) (lot .0) (call .0) ⌝ }
+{
+    let counts = read_book(book);
+    let Counts::Are(lots, calls) = counts else {
+        return Cost::Refused(files::refusal_of(counts));
+    };
+    let i = lot.0;
+    if lots <= i {
+        return Cost::Outside;
+    }
+    let j = call.0;
+    if calls <= j {
+        return Cost::Outside;
+    }
+    let at = row_at(book, lot);
+    let row = &book[at..];
+    if word::is_set(files::u32_at(row, 0), j) {
+        Cost::Of(row::cost_in(row, j))
+    } else {
+        Cost::NotEligible
+    }
+}
