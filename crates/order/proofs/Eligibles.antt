@@ -1,0 +1,74 @@
+-- What a table's entry says of a pair, and what that makes of the test of a quadruple.
+use mathlib.Core.Path.{_≡_, sym, subst}
+use mathlib.Core.Logic.{by-cases}
+use mathlib.Core.Bool.{true, false, not, _&&_, and-false}
+use mathlib.Core.List.{List, [], _∷_}
+use Prim.Native.Nat.{ℕ, _+_, _*_, _≤_, _<_}
+use native.Mathlib.Decide.{decLt}
+use native.Mathlib.Omega.{arith}
+use borrow.Author.Tests.{lt-ltb, le-ltb, eq-eqb, ne-eqb}
+use lib.Dec.{T, T-not, ltb, eqb, ltb→lt}
+use Rattle.transport.proofs.Laws.Tests.{T?, T-true, T-false, and-says}
+use Rattle.transport.specs.Problem.{Problem, Eligible}
+use Rattle.transport.specs.Greedy.{Pair}
+use Rattle.transport.proofs.Orders.Monge.{Fits}
+use Rattle.transport.proofs.Finder.Gaps.{Bounded}
+use Rattle.specification.specs.Reply.{gives, refuses}
+use Rattle.specification.specs.Book.{costLimit}
+use Rattle.specification.specs.Check.{checkQuadruple}
+use Rattle.specification.proofs.Replies.{not-both}
+use Rattle.book.specs.Table.{entry, admitsBy, problemBy, Tabled}
+
+module _ (book table : List ℕ) (n m : ℕ) (k l : ℕ) where
+  pub not-admitted : entry table k l ≡ 0 → problemBy book table n m .admits k l ≡ false
+  not-admitted e = simp (eq-eqb _ _ e, and-false)
+
+  pub admitted : k < n → l < m → (entry table k l ≡ 0 → ⊥) → problemBy book table n m .admits k l ≡ true
+  admitted hk hl h = simp (lt-ltb _ _ hk, lt-ltb _ _ hl, ne-eqb _ _ h)
+
+pub admitted-in : (table : List ℕ) (n m k l : ℕ) → admitsBy table n m k l ≡ true → (k < n) × (l < m) × (entry table k l ≡ 0 → ⊥)
+admitted-in table n m k l e =
+    let t : T (admitsBy table n m k l) = subst T (sym e) tt in
+    let in-lots = and-says (ltb k n) (ltb l m && not (eqb (entry table k l) 0)) t in
+    let in-calls = and-says (ltb l m) (not (eqb (entry table k l) 0)) (in-lots .1) in (
+      ltb→lt k n (in-lots .0),
+      ltb→lt l m (in-calls .0),
+      λ z. T-not (eqb (entry table k l) 0) (in-calls .1) (subst T (sym (eq-eqb _ _ z)) tt),
+    )
+
+-- a pair that the table admits is eligible
+pub inside-table : (book table : List ℕ) (n m i j : ℕ) → T (problemBy book table n m .admits i j) → Eligible (problemBy book table n m) i j
+inside-table book table n m i j t = let (in-lots, in-calls, _) = admitted-in table n m i j (T-true (admitsBy table n m i j) t) in
+    (in-lots, in-calls, t)
+
+-- the costs of a table are within the limit
+pub bounded : (book table : List ℕ) (n m : ℕ) → n ≤ 32 → m ≤ 32 → Tabled book table → Bounded (problemBy book table n m) costLimit
+bounded book table n m few few′ tabled i j e =
+    let inside = admitted-in table n m i j (T-true (admitsBy table n m i j) (e .2)) in
+    tabled .cheap (32 * i + j) (omega (arith, e .0, e .1)) (inside .2)
+
+-- the three cases of a quadruple, in any problem
+module _ (P : Problem) (p : Pair) (k l : ℕ) where
+  pub quadruple-not-eligible : P .admits k l ≡ false → refuses 11 (p .lot ∷ p .call ∷ k ∷ l ∷ []) ≡ checkQuadruple P p k l
+  unfolding checkQuadruple
+  quadruple-not-eligible e = rw e
+
+  pub quadruple-too-high : P .admits k l ≡ true
+      → P .cost (p .lot) l + P .cost k (p .call) < P .cost (p .lot) (p .call) + P .cost k l
+      → refuses 12 (p .lot ∷ p .call ∷ k ∷ l ∷ []) ≡ checkQuadruple P p k l
+  unfolding checkQuadruple
+  quadruple-too-high e h = simp (e, lt-ltb _ _ h)
+
+  pub quadruple-holds : P .admits k l ≡ true
+      → P .cost (p .lot) (p .call) + P .cost k l ≤ P .cost (p .lot) l + P .cost k (p .call)
+      → gives tt ≡ checkQuadruple P p k l
+  unfolding checkQuadruple
+  quadruple-holds e h = simp (e, le-ltb _ _ h)
+
+  -- where it is not refused, the condition holds
+  pub quadruple-fits : checkQuadruple P p k l ≡ gives tt → Fits P (p .lot) (p .call) k l
+  quadruple-fits e = by-cases (T? (P .admits k l))
+      (λ kl. by-cases (decLt (P .cost (p .lot) l + P .cost k (p .call)) (P .cost (p .lot) (p .call) + P .cost k l))
+      (λ high. absurd (not-both e (sym (quadruple-too-high (T-true (P .admits k l) kl) high))))
+      (λ low. record { admitted = kl; no-dearer = omega arith }))
+      (λ never. absurd (not-both e (sym (quadruple-not-eligible (T-false (P .admits k l) never)))))

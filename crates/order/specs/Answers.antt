@@ -1,0 +1,105 @@
+-- What the answers of this crate say in document 01's own terms.
+use mathlib.Core.List.{List, [], _∷_}
+use mathlib.Core.Path.{_≡_}
+use mathlib.Core.Bool.{Bool, true, false, cond, not, _&&_, _||_}
+use Prim.Native.Nat.{ℕ, _+_, _*_, _≤_, _<_, min}
+use lib.Dec.{ltb, leb}
+use lib.ListN.{set}
+use Rattle.transport.specs.Greedy.{Pair}
+use Rattle.transport.specs.Problem.{Problem}
+use Rattle.transport.specs.Order.{OrderOf}
+use Rattle.transport.specs.Finder.{free}
+use Rattle.transport.proofs.Finder.Standing.{standing}
+use Rattle.transport.proofs.Finder.Gaps.{leastAt}
+use Rattle.transport.proofs.Finder.Backward.{lowered}
+use Rattle.specification.specs.Book.{costLimit}
+use Rattle.specification.specs.Reply.{Reply, gives, refuses, refuseIf, _>>=_}
+use Rattle.specification.specs.Check.{checkQuadruple, checkPairs, complete, checkMonge}
+use Rattle.files.specs.Files.{statedStep}
+use Rattle.book.specs.Table.{entry, admitsBy, problemBy}
+use Rattle.order.specs.Places.{pairAt, rest, metAt, gapBy, Shows}
+use Rattle.order.specs.declared.scan.Quadruple.{Quadruple}
+use Rattle.order.specs.declared.scan.Quadruple.the-variants.{Holds, NotEligible, TooHigh}
+use Rattle.files.specs.declared.Step.{Step}
+use Rattle.files.specs.declared.Step.the-variants.{Passes}
+
+abbrev pub statedQuadruple : Pair → ℕ → ℕ → Quadruple → Reply (Unit {0})
+statedQuadruple p k l Holds = gives tt
+statedQuadruple p k l NotEligible = refuses 11 (p .lot ∷ p .call ∷ k ∷ l ∷ [])
+statedQuadruple p k l TooHigh = refuses 12 (p .lot ∷ p .call ∷ k ∷ l ∷ [])
+
+-- for every count of lots above k and of calls above l: the answer is what the specification says of the quadruple
+abbrev pub Tested : List ℕ → List ℕ → ℕ → ℕ → ℕ → ℕ → Quadruple → Type 0
+Tested book table i j k l r =
+    (n m : ℕ) → k < n → l < m
+    → statedQuadruple (record { lot = i; call = j }) k l r ≡ checkQuadruple (problemBy book table n m) (record { lot = i; call = j }) k l
+
+-- a pair is not eligible, or has a place
+abbrev pub presentIn : List ℕ → List ℕ → ℕ → ℕ → ℕ → ℕ → Bool
+presentIn table places n m i j = cond (admitsBy table n m i j) (ltb 0 (entry places i j)) true
+
+-- one pair of an order, at a place: 9, then 10, and else one more than its place is noted
+pub record Met (table : List ℕ) (n m i j place : ℕ) (places : List ℕ) (r : Step) (later : List ℕ) : Type 0 where
+  pub says : statedStep r ≡ (refuseIf (not (admitsBy table n m i j)) 9 (place ∷ [])
+      >>= λ _. refuseIf (ltb 0 (entry places i j)) 10 (place ∷ []))
+  pub in-table : r ≡ Passes → (i < n) × (j < m)
+  pub noted : r ≡ Passes → later ≡ set places (32 * i + j) (place + 1)
+
+-- all pairs of an order in turn; where none is refused, the array then holds the places
+pub record Filled (table order : List ℕ) (count n m : ℕ) (r : Step) (places : List ℕ) : Type 0 where
+  pub says : (book : List ℕ) → statedStep r ≡ checkPairs (problemBy book table n m) [] 0 (rest order count 0)
+  pub shows : r ≡ Passes → Shows 32 32 places (metAt order count)
+
+-- lot k in the turn of the pair (i, j), which stands at a place: the least gap of i over k is lowered to that at j,
+-- and the answer is whether (k, j) stands earlier or the gap at j is now the least
+pub record Lowered (book table places : List ℕ) (i j k place : ℕ) (least : List ℕ) (r : Bool) (later : List ℕ) : Type 0 where
+  pub lowers : later ≡ set least (32 * i + k) (min (entry least i k) (gapBy book table i k j))
+  pub says : r ≡ (not (ltb place (entry places k j)) || leb (gapBy book table i k j) (min (entry least i k) (gapBy book table i k j)))
+
+-- the whole turn of a pair, for every count of calls above j and all least gaps that the array shows
+pub record Entered (book table places : List ℕ) (n i j place : ℕ) (r : Bool) (later : List ℕ) (m : ℕ) (gaps : ℕ → ℕ → ℕ) : Type 0 where
+  pub shows : Shows n n later (lowered (problemBy book table n m) costLimit gaps (record { lot = i; call = j }))
+  pub says : r ≡ leastAt (problemBy book table n m) costLimit (λ k l. ltb place (entry places k l))
+      (lowered (problemBy book table n m) costLimit gaps (record { lot = i; call = j }) i) i j
+
+-- whether the pair at a place of an order is free against the pairs that stand there or later
+abbrev pub freeAt : Problem → List ℕ → ℕ → ℕ → Bool
+freeAt P order count p = free P (standing (rest order count p)) (pairAt order p .lot) (pairAt order p .call)
+
+-- of the places from `from` on, r is the lowest whose pair is not free, and the count where there is none
+pub record LowestNotFree (P : Problem) (order : List ℕ) (count from r : ℕ) : Type 0 where
+  pub within : r ≤ count
+  pub free-before : (p : ℕ) → from ≤ p → p < r → freeAt P order count p ≡ true
+  pub not-free : r < count → freeAt P order count r ≡ false
+
+-- for every count of calls with which the pairs are an order of the eligible pairs: the answer of the walk by least gaps
+abbrev pub Walked : List ℕ → List ℕ → List ℕ → ℕ → ℕ → ℕ → Type 0
+Walked book table order count n r =
+    (m : ℕ) → m ≤ 32 → OrderOf (problemBy book table n m) (rest order count 0) → LowestNotFree (problemBy book table n m) order count 0 r
+
+-- a quadruple of the pair p, which stands at a place, with lot k and call l: tested where (i, l) stands later
+abbrev pub callAt : List ℕ → List ℕ → List ℕ → ℕ → ℕ → ℕ → Pair → ℕ → ℕ → Reply (Unit {0})
+callAt book table places n m place p k l =
+    cond (ltb (place + 1) (entry places (p .lot) l)) (checkQuadruple (problemBy book table n m) p k l) (gives tt)
+
+abbrev pub TestedLater : List ℕ → List ℕ → List ℕ → ℕ → ℕ → ℕ → ℕ → ℕ → Step → Type 0
+TestedLater book table places place i j k l r =
+    (n m : ℕ) → k < n → l < m → statedStep r ≡ callAt book table places n m place (record { lot = i; call = j }) k l
+
+-- and where both (i, l) and (k, j) do
+abbrev pub quadrupleAt : List ℕ → List ℕ → List ℕ → ℕ → ℕ → ℕ → Pair → ℕ → ℕ → Reply (Unit {0})
+quadrupleAt book table places n m place p k l =
+    cond (ltb (place + 1) (entry places (p .lot) l) && ltb (place + 1) (entry places k (p .call)))
+    (checkQuadruple (problemBy book table n m) p k l) (gives tt)
+
+-- the count, where the step is no refusal
+abbrev pub countAfter : Step → ℕ → Reply ℕ
+countAfter v count = statedStep v >>= λ _. gives count
+
+-- the pairs of an order: 9 or 10 at each, then 14, then 11 or 12, and else the count
+abbrev pub checkedPairs : Problem → List Pair → ℕ → Reply ℕ
+checkedPairs P S count = do
+  _ ← checkPairs P [] 0 S
+  _ ← refuseIf (not (complete P S)) 14 []
+  _ ← checkMonge P S
+  gives count

@@ -1,0 +1,131 @@
+// The pairs of an order by place: 9 and 10 at each, the array of their places, and whether a pair is missing.
+use files::Step;
+use specification::Call;
+use specification::Lot;
+use specification::Refusal;
+ghost use mathlib.Core.Path.{_≡_};
+ghost use Prim.Native.Nat.{_+_, _*_, _<_, _≤_};
+ghost use lib.ListN.{length};
+ghost use Rattle.transport.specs.Finder.{every};
+ghost use Rattle.order.specs.Places.{pairAt, Shows};
+ghost use Rattle.order.specs.Asked.{CanWalk};
+ghost use Rattle.order.specs.Answers.{Met, Filled, presentIn};
+
+// A byte as a number of a wider type.
+fn index(x: u8) -> usize
+    ensures { λ r. ⌜ r ≡ x ⌝ }
+{
+    x as usize
+}
+
+// The lot and the call of the pair at a place of an order file.
+pub fn lot_at(order: &[u8], place: usize) -> Lot
+    requires { ⌜ 7 + 2 * place + 2 ≤ length (now order) ⌝ }
+    ensures { λ r. ⌜ r .0 ≡ pairAt (now (order .entry)) place .lot ⌝ }
+{
+    Lot(index(order[7 + 2 * place]))
+}
+
+pub fn call_at(order: &[u8], place: usize) -> Call
+    requires { ⌜ 7 + 2 * place + 2 ≤ length (now order) ⌝ }
+    ensures { λ r. ⌜ r .0 ≡ pairAt (now (order .entry)) place .call ⌝ }
+{
+    Call(index(order[7 + 2 * place + 1]))
+}
+
+// One pair of an order, at a place: refused where it is not eligible or was met before, and else its place is noted, one more than it is.
+fn meet(
+    offsets: &[u16; 1024],
+    n: usize,
+    m: usize,
+    i: Lot,
+    j: Call,
+    place: usize,
+    places: &mut [u16; 1024],
+) -> Step
+    requires { ⌜ (n ≤ 32) × (m ≤ 32) × (place < 65535) ⌝ }
+    ensures { λ r. ⌜ Met (now (offsets .entry)) n m (i .0) (j .0) place (now (places .entry)) r (now (places .exit)) ⌝ }
+{
+    if !book::inner::eligible(offsets, n, m, i, j) {
+        return Step::Refused(Refusal::PairNotEligible(place));
+    }
+    let met = book::inner::entry_of(places, i, j);
+    if met > 0 {
+        return Step::Refused(Refusal::PairMetBefore(place));
+    }
+    let lot = i.0;
+    let call = j.0;
+    places[32 * lot + call] = (place + 1) as u16;
+    Step::Passes
+}
+
+// The pairs of an order in turn, each as `meet` says; where none is refused, the array then holds each pair's place, one more than it is.
+pub fn fill_places(
+    offsets: &[u16; 1024],
+    n: usize,
+    m: usize,
+    order: &[u8],
+    count: usize,
+    places: &mut [u16; 1024],
+) -> Step
+    requires { ⌜ CanWalk (now order) count n m × Shows 32 32 (now places) (λ i j. 0) ⌝ }
+    ensures { λ r. ⌜ Filled (now (offsets .entry)) (now (order .entry)) count n m r (now (places .exit)) ⌝ }
+{
+    let mut p: usize = 0;
+    while p < count {
+        let met = meet(
+            offsets,
+            n,
+            m,
+            lot_at(order, p),
+            call_at(order, p),
+            p,
+            places,
+        );
+        let Step::Passes = met else {
+            return met;
+        };
+        p += 1;
+    }
+    Step::Passes
+}
+
+// Whether a pair is not eligible or has a place.
+fn present(offsets: &[u16; 1024], places: &[u16; 1024], n: usize, m: usize, i: Lot, j: Call) -> bool
+    requires { ⌜ (n ≤ 32) × (m ≤ 32) ⌝ }
+    ensures { λ r. ⌜ r ≡ presentIn (now (offsets .entry)) (now (places .entry)) n m (i .0) (j .0) ⌝ }
+{
+    if book::inner::eligible(offsets, n, m, i, j) {
+        return book::inner::entry_of(places, i, j) > 0;
+    }
+    true
+}
+
+// Whether each eligible pair of a lot has a place, and of all lots.
+fn lot_present(offsets: &[u16; 1024], places: &[u16; 1024], n: usize, m: usize, i: Lot) -> bool
+    requires { ⌜ (n ≤ 32) × (m ≤ 32) ⌝ }
+    ensures { λ r. ⌜ r ≡ every m (λ j. presentIn (now (offsets .entry)) (now (places .entry)) n m (i .0) j) ⌝ }
+{
+    let mut j: usize = 0;
+    while j < m {
+        if !present(offsets, places, n, m, i, Call(j)) {
+            return false;
+        }
+        j += 1;
+    }
+    true
+}
+
+pub fn all_present(offsets: &[u16; 1024], places: &[u16; 1024], n: usize, m: usize) -> bool
+    requires { ⌜ (n ≤ 32) × (m ≤ 32) ⌝ }
+    ensures { λ r. ⌜ r ≡ every n (λ i. every m (λ j. presentIn (now (offsets .entry)) (now (places .entry)) n m i j)) ⌝ }
+{
+    let mut i: usize = 0;
+    while i < n {
+        if !lot_present(offsets, places, n, m, Lot(i)) {
+            return false;
+        }
+        i += 1;
+    }
+    true
+}

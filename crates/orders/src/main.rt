@@ -1,0 +1,307 @@
+// Checks the known examples of orders, F2 to F6 of document 01, and orders that tempt a check to err, and writes what each comes to: a
+// label, and the count of pairs or the refusal's number and values.
+use specification::Call;
+use specification::Checked;
+use specification::Lot;
+use specification::Refusal;
+ghost use mathlib.Core.Path.{_≡_};
+ghost use lib.ListN.{length};
+
+fn show_number(x: usize) {
+    io::write_all(1, b" ");
+    io::print_decimal(1, x as u64);
+}
+
+fn show_quadruple(i: Lot, j: Call, k: Lot, l: Call) {
+    show_number(i.0);
+    show_number(j.0);
+    show_number(k.0);
+    show_number(l.0);
+}
+
+// A refusal's number, and its values where a check of pairs gives it.
+fn show_refusal(cause: Refusal) {
+    io::print_decimal(1, files::number(cause));
+    match cause {
+        Refusal::PairNotEligible(place) => show_number(place),
+        Refusal::PairMetBefore(place) => show_number(place),
+        Refusal::CrossNotEligible(i, j, k, l) => show_quadruple(i, j, k, l),
+        Refusal::CrossSumTooHigh(i, j, k, l) => show_quadruple(i, j, k, l),
+        _ => (),
+    }
+}
+
+// One case: an order file checked against a book.
+fn show(label: &[u8], book: &[u8], order: &[u8]) {
+    io::write_all(1, label);
+    io::write_all(1, b": ");
+    let checked = order::check_order(book, order);
+    match checked {
+        Checked::Passes(count) => {
+            io::write_all(1, b"passes");
+            show_number(count);
+        }
+        Checked::Refused(cause) => show_refusal(cause),
+    }
+    io::write_all(1, b"\n");
+}
+
+// One case: the first so many bytes of an order file.
+fn show_first(label: &[u8], book: &[u8], order: &[u8], size: usize) {
+    if size <= order.len() {
+        show(label, book, &order[0..size]);
+    }
+}
+
+// One case: the order's pairs as document 01 writes them, a digit for the lot and one for the call, as in "01 00 10".
+fn show_pairs(label: &[u8], book: &[u8], pairs: &[u8]) {
+    let mut file = [0u8; 209];
+    file[0] = b'C';
+    file[1] = b'L';
+    file[2] = b'O';
+    file[3] = 1;
+    let mut p: usize = 0;
+    while p < 100 {
+        file[7 + 2 * p] = files::u8_at(pairs, 3 * p) % 16;
+        file[8 + 2 * p] = files::u8_at(pairs, 3 * p + 1) % 16;
+        p += 1;
+    }
+    let before_last = pairs.len() / 3;
+    if before_last < 100 {
+        file[5] = (before_last + 1) as u8;
+        show_first(label, book, &file, 9 + 2 * before_last);
+    }
+}
+
+// A book of two lots and two calls, all eligible.
+fn square(a: u8, b: u8, c: u8, d: u8) -> [u8; 31]
+    ensures { λ r. ⌜ 31 ≡ length r ⌝ }
+{
+    let mut file = [0u8; 31];
+    file[0] = b'C';
+    file[1] = b'L';
+    file[2] = b'B';
+    file[3] = 1;
+    file[5] = 2;
+    file[6] = 2;
+    file[7] = 3;
+    file[11] = a;
+    file[15] = b;
+    file[19] = 3;
+    file[23] = c;
+    file[27] = d;
+    file
+}
+
+// The known examples.
+fn show_examples() {
+    let f1 = square(1, 2, 3, 5);
+    show_pairs(b"F2", &f1, b"00 01 10 11");
+    show_pairs(b"F3", &f1, b"11 00 01 10");
+    show_pairs(b"F4", &f1, b"01 10 00 11");
+    let f5 = square(1, 2, 3, 4);
+    show_pairs(b"F5", &f5, b"00 01 10 11");
+    let f6 =
+        b"CLB\x01\x00\x02\x02\x03\x00\x00\x00\x00\x00\x00\x00\x00\x00\x00\x00\x01\x00\x00\x00\x00\x00\x00\x00";
+    show_pairs(b"F6", f6, b"00 01 10");
+}
+
+// The same orders by other books and turned round, and orders of one lot and of no pairs.
+fn show_variations() {
+    let f1 = square(1, 2, 3, 5);
+    let f5 = square(1, 2, 3, 4);
+    show_pairs(b"F3's order by F5's book", &f5, b"11 00 01 10");
+    show_pairs(b"F3 turned round", &f1, b"00 11 01 10");
+    show_pairs(
+        b"one lot",
+        b"CLB\x01\x00\x01\x02\x03\x00\x00\x00\x05\x00\x00\x00\x01\x00\x00\x00",
+        b"00 01",
+    );
+    show(
+        b"no eligible pair",
+        b"CLB\x01\x00\x01\x01\x00\x00\x00\x00",
+        b"CLO\x01\x00\x00\x00",
+    );
+}
+
+// A book of 15 lots and 20 calls, all eligible at cost 0, and its 300 pairs lot by lot under a count's two bytes.
+fn book_of_300() -> [u8; 1267]
+    ensures { λ r. ⌜ 1267 ≡ length r ⌝ }
+{
+    let mut file = [0u8; 1267];
+    file[0] = b'C';
+    file[1] = b'L';
+    file[2] = b'B';
+    file[3] = 1;
+    file[5] = 15;
+    file[6] = 20;
+    let mut lot: usize = 0;
+    while lot < 15 {
+        file[7 + 84 * lot] = 255;
+        file[8 + 84 * lot] = 255;
+        file[9 + 84 * lot] = 15;
+        lot += 1;
+    }
+    file
+}
+
+fn order_of_300(low: u8, high: u8) -> [u8; 607]
+    ensures { λ r. ⌜ 607 ≡ length r ⌝ }
+{
+    let mut file = [0u8; 607];
+    file[0] = b'C';
+    file[1] = b'L';
+    file[2] = b'O';
+    file[3] = 1;
+    file[5] = low;
+    file[6] = high;
+    let mut p: usize = 0;
+    while p < 300 {
+        file[7 + 2 * p] = (p / 20) as u8;
+        file[8 + 2 * p] = (p % 20) as u8;
+        p += 1;
+    }
+    file
+}
+
+// An order file of 65,535 pairs: the four of F4, then one whose lot and call are given, then (0, 0).
+fn longest(fifth: u8) -> [u8; 131077]
+    ensures { λ r. ⌜ 131077 ≡ length r ⌝ }
+{
+    let mut file = [0u8; 131077];
+    file[0] = b'C';
+    file[1] = b'L';
+    file[2] = b'O';
+    file[3] = 1;
+    file[5] = 255;
+    file[6] = 255;
+    file[8] = 1;
+    file[9] = 1;
+    file[13] = 1;
+    file[14] = 1;
+    file[15] = fifth;
+    file[16] = fifth;
+    file
+}
+
+// The bytes of the count of pairs.
+fn show_counts() {
+    let book = book_of_300();
+    show(b"300 pairs", &book, &order_of_300(44, 1));
+    show(
+        b"300 pairs, the count's bytes exchanged",
+        &book,
+        &order_of_300(1, 44),
+    );
+}
+
+// A file's length against its count of pairs.
+fn show_lengths() {
+    let f1 = square(1, 2, 3, 5);
+    show(
+        b"a byte short, a pair outside",
+        &f1,
+        b"CLO\x01\x00\x02\x00\xff\xff\x00",
+    );
+    show(
+        b"a byte more, a pair outside",
+        &f1,
+        b"CLO\x01\x00\x01\x00\xff\xff\x00",
+    );
+    show(b"65,535 pairs, none there", &f1, b"CLO\x01\x00\xff\xff");
+    show(b"65,535 pairs, (0, 0) after all four", &f1, &longest(0));
+    show(
+        b"65,535 pairs, (255, 255) after all four",
+        &f1,
+        &longest(255),
+    );
+}
+
+// Openings, of the order and of the book before it.
+fn show_openings() {
+    let f1 = square(1, 2, 3, 5);
+    show(b"under seven bytes", &f1, b"CLO\x01\x00\x00");
+    show(b"a book's mark", &f1, b"CLB\x01\x00\x00\x00");
+    show(b"version 256", &f1, b"CLO\x00\x01\x00\x00");
+    show(
+        b"a refused book, and an order under seven bytes",
+        b"CLB\x01\x00\x21\x02",
+        b"CLO",
+    );
+}
+
+// Pairs outside the book.
+fn show_pairs_outside() {
+    let f1 = square(1, 2, 3, 5);
+    show(b"call 2 of lot 0", &f1, b"CLO\x01\x00\x01\x00\x00\x02");
+    show(b"call 32 of lot 0", &f1, b"CLO\x01\x00\x01\x00\x00\x20");
+    show(b"call 255 of lot 31", &f1, b"CLO\x01\x00\x01\x00\x1f\xff");
+}
+
+// Pairs met before, and pairs missing.
+fn show_pairs_met() {
+    let f1 = square(1, 2, 3, 5);
+    show_pairs(b"met before, then outside", &f1, b"00 00 99");
+    show_pairs(b"met before, one between", &f1, b"00 01 00");
+    show_pairs(b"first pair twice", &f1, b"00 00 01 10 11");
+    show_pairs(b"F2 without its last pair", &f1, b"00 01 10");
+    show(b"no pairs", &f1, b"CLO\x01\x00\x00\x00");
+}
+
+// Two blocks of pairs: in lots 0 and 1 a cost sum is too high, in lots 2 and 3 a pair is not eligible.
+fn show_blocks() {
+    let mut book = [0u8; 51];
+    book[0] = b'C';
+    book[1] = b'L';
+    book[2] = b'B';
+    book[3] = 1;
+    book[5] = 4;
+    book[6] = 4;
+    book[7] = 3;
+    book[11] = 1;
+    book[19] = 3;
+    book[27] = 1;
+    book[31] = 12;
+    book[43] = 4;
+    show_pairs(
+        b"sum too high at 0, not eligible at 1",
+        &book,
+        b"00 22 01 10 11 23 32",
+    );
+    show_pairs(
+        b"not eligible at 0, sum too high at 1",
+        &book,
+        b"22 00 01 10 11 23 32",
+    );
+}
+
+// 22 lots and 7 calls, eligible (0, 0), (0, 3), (10, 0), (10, 3), (10, 6) and (21, 3): (10, 3) fails with (0, 6) and with (21, 0).
+fn show_far_failures() {
+    let mut book = [0u8; 119];
+    book[0] = b'C';
+    book[1] = b'L';
+    book[2] = b'B';
+    book[3] = 1;
+    book[5] = 22;
+    book[6] = 7;
+    book[7] = 9;
+    book[55] = 73;
+    book[111] = 8;
+    show(
+        b"lots before calls",
+        &book,
+        b"CLO\x01\x00\x06\x00\x0a\x03\x00\x00\x00\x03\x0a\x00\x0a\x06\x15\x03",
+    );
+}
+
+fn main() {
+    show_examples();
+    show_variations();
+    show_counts();
+    show_lengths();
+    show_openings();
+    show_pairs_outside();
+    show_pairs_met();
+    show_blocks();
+    show_far_failures();
+}
