@@ -1,0 +1,8 @@
+-- The mathematics of a run, apart from its code.
+pub mod Costs
+pub mod Summing
+pub mod Listing
+pub mod Grid
+pub mod Steps
+pub mod Whole
+pub mod Supplied
