@@ -1,0 +1,9 @@
+-- Laws of the work arrays, which the functions' proofs cite.
+pub mod Tables
+pub mod Turns
+pub mod Writes
+pub mod Lowering
+pub mod Marks
+pub mod Taking
+pub mod Finding
+pub mod Books

@@ -1,0 +1,116 @@
+-- `finder::find_order` meets its contract: at each `return` the tests that led there say which case of document 01 it is (`Books`).
+-- Assumes nothing.
+use borrow.Author.Needs.{needs}
+use mathlib.Core.Path.{_≡_, refl, sym, ap, _∙_}
+use mathlib.Core.List.{List, []}
+use Prim.Native.Nat.{ℕ, _+_, _*_, _≤_}
+use native.Mathlib.Omega.{arith}
+use lib.ListN.{length}
+use Rattle.transport.specs.Finder.{size}
+use Rattle.transport.proofs.Finder.Same.{size-of-same}
+use Rattle.specification.specs.Reply.{gives, statedCounts}
+use Rattle.specification.specs.Book.{readBook, problemOf}
+use Rattle.specification.specs.Find.{orderLength}
+use Rattle.specification.proofs.Books.{size-within}
+use Rattle.book.proofs.Readable.{Read, counts-are}
+use Rattle.finder.proofs.Books.{states-same, stated, count-is, refusal-is, found-refused, found-short, refused-replies}
+use Rattle.finder.proofs.Books.{none-replies, some-replies}
+use Rattle.finder.proofs.find_order.Statement.{statement}
+use Rattle.finder.proofs.find_order.Tie as tie
+
+-- the book is readable, with n lots and m calls
+module _ (c : tie.After-known-told) where
+  abbrev start : tie.Start
+  start = c .before .before .before .before .before .before
+
+  abbrev book : List ℕ
+  book = start .args .book .now
+
+  abbrev order : List ℕ
+  order = start .args .order .now
+
+  abbrev n : ℕ
+  n = c .before .counts .given .0 .0
+
+  abbrev m : ℕ
+  m = c .before .counts .given .0 .1 .0
+
+  gave : readBook book ≡ gives (record { lots = n; calls = m })
+  gave = sym (c .before .before .before .read-book .ensures) ∙ ap statedCounts (c .before .counts .given .1)
+
+  read : Read book n m
+  read = counts-are _ (sym gave)
+
+size-is : (c : tie.After-fill-rest) → c .fill-rest .result ≡ size (problemOf (book (c .before .before .before .before)))
+size-is c = c .fill-rest .ensures .1 ∙ count-is _ _ _ _ (read (c .before .before .before .before)) (c .before .before .before .offsets .ensures)
+
+returns : tie.Need-returns
+returns c = refused-replies _ _ _ _ (found-refused _ _
+    (refusal-is _ _ _ _ (c .before .before .before .read-book .ensures) (c .before .enum-told .given .1) (c .refusal-of .ensures)))
+
+offsets-requires : tie.Need-offsets-requires
+offsets-requires c κs = (read c .is-readable, read c .lots-is)
+
+fill-rest-requires : tie.Need-fill-rest-requires
+fill-rest-requires c κs =
+    let s = stated _ _ _ _ (read (c .before .before .before)) (c .before .before .offsets .ensures) in
+    (s .lots-few, s .calls-few, refl)
+
+mul-length : tie.Need-mul-length
+mul-length c = omega (arith, size-is c, size-within (read (c .before .before .before .before) .known))
+
+add-length : tie.Need-add-length
+add-length c = omega (arith, size-is c, size-within (read (c .before .before .before .before) .known))
+
+returns-2 : tie.Need-returns-2
+returns-2 c = refused-replies _ _ 17 [] (found-short _ _ (gave (c .before .before .before .before .before)) (omega (arith, size-is (c .before), c .if1 .taken)))
+
+find-marked-requires : tie.Need-find-marked-requires
+find-marked-requires c κs =
+    let k = c .before .before .before .before .before .before .before .before in
+    let f = c .before .before .before .before in
+    let is-its = c .before .before .before .before .before .before .before .offsets .ensures in (
+      stated _ _ _ _ (read k) is-its,
+      (
+        f .fill-rest .ensures .0,
+        (
+          f .fill-rest .ensures .1,
+          omega (arith, size-of-same (states-same _ _ _ _ (read k) is-its), size-is f, c .before .before .before .if1 .left),
+        ),
+      ),
+    )
+
+long-enough : (c : tie.Else1) → orderLength (book (c .before .before .before .before .before)) ≤ length (order (c .before .before .before .before .before))
+long-enough c = omega (arith, size-is (c .before), c .if1 .left)
+
+returns-3 : tie.Need-returns-3
+returns-3 c = none-replies _ _ _ _ _ _ (c .before .before .before .before .before .before .before .before .before .before .before .before .offsets .ensures) (gave (c .before .before .before .before .before .before .before .before .before .before .before .before .before)) (long-enough (c .before .before .before .before .before .before .before .before)) _
+    (c .before .before .before .before .find-marked .ensures) (c .enum-told3 .given .1)
+
+returns-4 : tie.Need-returns-4
+returns-4 c =
+    let replies = some-replies _ _ _ _ _ _ (c .before .before .before .before .before .before .before .before .before .before .before .before .offsets .ensures) (gave (c .before .before .before .before .before .before .before .before .before .before .before .before .before)) (long-enough (c .before .before .before .before .before .before .before .before)) _
+    (c .before .before .before .before .find-marked .ensures) _ (c .enum-told2 .given .1) in
+    (ap (λ (k : ℕ). gives (7 + 2 * k)) (size-is (c .before .before .before .before .before .before .before .before .before)) ∙ replies .0, replies .1)
+
+pub find-order-spec : {M : Type 1} → statement M
+find-order-spec =
+    tie.close
+    (tie.spec
+    (λ c κs. search needs)
+    (λ c. search needs)
+    (λ c. search needs)
+    (λ c κs. search needs)
+    returns
+    offsets-requires
+    fill-rest-requires
+    mul-length
+    add-length
+    returns-2
+    find-marked-requires
+    (λ c. search needs)
+    (λ c. search needs)
+    (λ c. search needs)
+    returns-3
+    (λ c. search needs)
+    returns-4)

@@ -1,0 +1,31 @@
+-- `finder::writing::put` meets its contract. Two stores at the end of what is taken (`pair-put`).
+use mathlib.Core.Path.{_≡_}
+use Prim.Native.Nat.{_+_, _*_}
+use native.Mathlib.Omega.{arith}
+use borrow.Author.Needs.{needs}
+use lib.ListN.{length-set}
+use Rattle.finder.proofs.Turns.{pair-put}
+use Rattle.finder.proofs.writing.put.Statement.{statement}
+use Rattle.finder.proofs.writing.put.Tie as tie
+
+slice-write-pairs-2 : tie.Need-slice-write-pairs-2
+slice-write-pairs-2 c = simp length-set (omega arith)
+
+returns : tie.Need-returns
+returns c =
+    let e : 2 * (c .args .count + 1) ≡ 2 * c .args .count + 2 = omega arith in
+    rw e (pair-put (c .args .pairs .now) (2 * c .args .count) _ _ (omega arith))
+
+pub put-spec : {M : Type 1} → statement M
+put-spec =
+    tie.close
+    (tie.spec
+    (λ c. search needs)
+    (λ c. search needs)
+    (λ c. search needs)
+    (λ c. search needs)
+    (λ c. search needs)
+    (λ c. search needs)
+    slice-write-pairs-2
+    (λ c. search needs)
+    returns)

@@ -1,0 +1,178 @@
+// Finds orders of known examples and of books on which a finder goes wrong easily, one line a case. After the label: the length, mark, version
+// and count of the file that was written with its first seven pairs, or the refusal; then how many bytes after it kept their contents.
+use specification::Found;
+ghost use mathlib.Core.Path.{_≡_};
+ghost use Prim.Native.Nat.{_<_, _≤_};
+ghost use lib.ListN.{length};
+
+// A number after a space.
+fn show_number(x: u64) {
+    io::write_all(1, b" ");
+    io::print_decimal(1, x);
+}
+
+// The pair whose two bytes stand at a place.
+fn show_pair(order: &[u8], at: usize)
+    requires { ⌜ at < 100 ⌝ }
+{
+    show_number(files::u8_at(order, at) as u64);
+    io::write_all(1, b",");
+    io::print_decimal(1, files::u8_at(order, at + 1) as u64);
+}
+
+fn show_pairs(order: &[u8]) {
+    for k in 0..7 {
+        if k < files::u16_at(order, 5) as usize {
+            show_pair(order, 7 + 2 * k);
+        }
+    }
+}
+
+// 1 for a byte of the first contents, which are all 170.
+fn first_contents(byte: u8) -> u64
+    ensures { λ r. ⌜ r ≤ 1 ⌝ }
+{
+    if byte == 170 { 1 } else { 0 }
+}
+
+// How many bytes from a place on are as at first.
+fn kept_from(order: &[u8], from: usize) -> u64 {
+    let mut kept: u64 = 0;
+    let mut k = from;
+    while k < order.len() {
+        kept += first_contents(files::u8_at(order, k));
+        k += 1;
+    }
+    kept
+}
+
+fn show_kept(order: &[u8], from: usize) {
+    io::write_all(1, b" kept");
+    show_number(kept_from(order, from));
+    io::write_all(1, b"\n");
+}
+
+// A search with a buffer all of whose bytes are 170.
+fn show(label: &[u8], book: &[u8], order: &mut [u8]) {
+    io::write_all(1, label);
+    let found = finder::find_order(book, order);
+    match found {
+        Found::Length(n) => {
+            show_number(n as u64);
+            show_number(files::u8_at(order, 0) as u64);
+            show_number(files::u8_at(order, 1) as u64);
+            show_number(files::u8_at(order, 2) as u64);
+            show_number(files::u16_at(order, 3) as u64);
+            show_number(files::u16_at(order, 5) as u64);
+            show_pairs(order);
+            show_kept(order, n);
+        }
+        Found::Refused(r) => {
+            io::write_all(1, b" REFUSED");
+            show_number(files::number(r));
+            show_kept(order, 0);
+        }
+    }
+}
+
+// The same with a buffer of so many bytes, at most 40.
+fn show_in(label: &[u8], book: &[u8], length: usize)
+    requires { ⌜ length ≤ 40 ⌝ }
+{
+    let mut order = [170u8; 40];
+    show(label, book, &mut order[..length]);
+}
+
+// A cost of the book below.
+fn cost(lot: usize, call: usize) -> u8 {
+    if call < 31 {
+        100
+    } else if lot < 17 {
+        2
+    } else if lot < 31 {
+        1
+    } else {
+        7
+    }
+}
+
+// The row of a lot with all calls eligible.
+fn fill_row(book: &mut [u8; 4231], lot: usize)
+    requires { ⌜ (lot < 32) × (length (now book) ≡ 4231) ⌝ }
+    ensures { λ _. ⌜ length (now (book .exit)) ≡ 4231 ⌝ }
+{
+    let at = 7 + 132 * lot;
+    for k in 0..4 {
+        book[at + k] = 255;
+    }
+    for call in 0..32 {
+        book[at + 4 + 4 * call] = cost(lot, call);
+    }
+}
+
+// 32 by 32: the pairs of lots 0 to 16 are not free, by the very last test of each, until lots 17 to 30 are used up. A finder that starts
+// again from the first pair at each turn makes 184 million tests.
+fn long_search() -> [u8; 4231] {
+    let mut book = [0u8; 4231];
+    files::write_opening(&mut book, &files::BOOK_MARK, 32 + 256 * 32);
+    for lot in 0..32 {
+        fill_row(&mut book, lot);
+    }
+    book
+}
+
+fn main() {
+    // costs 1 2 / 3 5
+    let f1 =
+        b"CLB\x01\x00\x02\x02\x03\x00\x00\x00\x01\x00\x00\x00\x02\x00\x00\x00\x03\x00\x00\x00\x03\x00\x00\x00\x05\x00\x00\x00";
+    // costs 0, (1, 1) not eligible
+    let f7 =
+        b"CLB\x01\x00\x02\x02\x03\x00\x00\x00\x00\x00\x00\x00\x00\x00\x00\x00\x01\x00\x00\x00\x00\x00\x00\x00";
+    // 3 by 3, costs 0, the diagonal not eligible
+    let f9 =
+        b"CLB\x01\x00\x03\x03\x06\x00\x00\x00\x00\x00\x00\x00\x00\x00\x00\x00\x05\x00\x00\x00\x00\x00\x00\x00\x00\x00\x00\x00\x03\x00\x00\x00\x00\x00\x00\x00\x00\x00\x00\x00";
+    // 1 by 1, not eligible
+    let f10 = b"CLB\x01\x00\x01\x01\x00\x00\x00\x00";
+    show_in(b"F1", f1, 40);
+    show_in(b"F7", f7, 40);
+    show_in(b"F9", f9, 19);
+    show_in(b"F10", f10, 7);
+    // too short comes before no order
+    show_in(b"P48", f9, 18);
+    show_in(b"P48", f9, 19);
+    // nothing is written where there is no order
+    show_in(b"P49", f9, 40);
+    // 0 0 0 / 0 1 1 / - - 0: (1, 0) is free with (0, 1) taken, since the fourth pair has only to be eligible
+    show_in(
+        b"P50",
+        b"CLB\x01\x00\x03\x03\x07\x00\x00\x00\x00\x00\x00\x00\x00\x00\x00\x00\x00\x00\x00\x00\x07\x00\x00\x00\x00\x00\x00\x00\x01\x00\x00\x00\x01\x00\x00\x00\x04\x00\x00\x00\x00\x00\x00\x00",
+        40,
+    );
+    // one pair, tested against itself
+    show_in(
+        b"P51",
+        b"CLB\x01\x00\x01\x01\x01\x00\x00\x00\x05\x00\x00\x00",
+        40,
+    );
+    // 1 0 / 0 0 / 2 0: (0, 0) becomes free by the taking of (1, 0)
+    show_in(
+        b"P52",
+        b"CLB\x01\x00\x03\x02\x03\x00\x00\x00\x01\x00\x00\x00\x00\x00\x00\x00\x03\x00\x00\x00\x00\x00\x00\x00\x00\x00\x00\x00\x03\x00\x00\x00\x02\x00\x00\x00\x00\x00\x00\x00",
+        40,
+    );
+    // the reply is the length; a buffer of that length is long enough, one byte less is not
+    show_in(b"P53", f1, 15);
+    show_in(b"P53", f1, 14);
+    // no pairs at all
+    show_in(
+        b"P54",
+        b"CLB\x01\x00\x02\x03\x00\x00\x00\x00\x00\x00\x00\x00",
+        40,
+    );
+    // each search starts anew
+    show_in(b"P56", f9, 40);
+    show_in(b"P56", f1, 40);
+    show_in(b"P56", f7, 40);
+    let mut order = [170u8; 2060];
+    show(b"P57", &long_search(), &mut order);
+}
