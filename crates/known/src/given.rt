@@ -1,0 +1,74 @@
+// The files of document 01's known examples, F1 to F14, and of a lot that is eligible for no call.
+
+// 2 by 2, costs 1 2 / 3 5
+pub const F1_BOOK: [u8; 31] =
+    *b"CLB\x01\0\x02\x02\x03\0\0\0\x01\0\0\0\x02\0\0\0\x03\0\0\0\x03\0\0\0\x05\0\0\0";
+
+// lots 5 4, calls 3 6
+pub const F1_AMOUNTS: [u8; 23] = *b"CLA\x01\0\x02\x02\x05\0\0\0\x04\0\0\0\x03\0\0\0\x06\0\0\0";
+
+// 00 01 10 11
+pub const F2_ORDER: [u8; 15] = *b"CLO\x01\0\x04\0\0\0\0\x01\x01\0\x01\x01";
+
+// 11 00 01 10
+pub const F3_ORDER: [u8; 15] = *b"CLO\x01\0\x04\0\x01\x01\0\0\0\x01\x01\0";
+
+// 01 10 00 11
+pub const F4_ORDER: [u8; 15] = *b"CLO\x01\0\x04\0\0\x01\x01\0\0\0\x01\x01";
+
+// 2 by 2, costs 1 2 / 3 4
+pub const F5_BOOK: [u8; 31] =
+    *b"CLB\x01\0\x02\x02\x03\0\0\0\x01\0\0\0\x02\0\0\0\x03\0\0\0\x03\0\0\0\x04\0\0\0";
+
+// 2 by 2, (1, 1) not eligible, costs 0
+pub const F6_BOOK: [u8; 27] = *b"CLB\x01\0\x02\x02\x03\0\0\0\0\0\0\0\0\0\0\0\x01\0\0\0\0\0\0\0";
+
+// 00 01 10
+pub const F6_ORDER: [u8; 13] = *b"CLO\x01\0\x03\0\0\0\0\x01\x01\0";
+
+// lots 1 1, calls 1 1
+pub const F7_AMOUNTS: [u8; 23] = *b"CLA\x01\0\x02\x02\x01\0\0\0\x01\0\0\0\x01\0\0\0\x01\0\0\0";
+
+// lots 2 0, calls 1 0
+pub const F8_AMOUNTS: [u8; 23] = *b"CLA\x01\0\x02\x02\x02\0\0\0\0\0\0\0\x01\0\0\0\0\0\0\0";
+
+// 3 by 3, diagonal not eligible, costs 0
+pub const F9_BOOK: [u8; 43] =
+    *b"CLB\x01\0\x03\x03\x06\0\0\0\0\0\0\0\0\0\0\0\x05\0\0\0\0\0\0\0\0\0\0\0\x03\0\0\0\0\0\0\0\0\0\0\0";
+
+// lots 1 1 1, calls 1 1 1
+pub const F9_AMOUNTS: [u8; 31] =
+    *b"CLA\x01\0\x03\x03\x01\0\0\0\x01\0\0\0\x01\0\0\0\x01\0\0\0\x01\0\0\0\x01\0\0\0";
+
+// 1 by 1, not eligible
+pub const F10_BOOK: [u8; 11] = *b"CLB\x01\0\x01\x01\0\0\0\0";
+
+// lot 1, call 1
+pub const F10_AMOUNTS: [u8; 15] = *b"CLA\x01\0\x01\x01\x01\0\0\0\x01\0\0\0";
+
+// lot 0, call 0
+pub const F11_AMOUNTS: [u8; 15] = *b"CLA\x01\0\x01\x01\0\0\0\0\0\0\0\0";
+
+// 1 by 1, cost 1,000,000
+pub const F12_BOOK: [u8; 15] = *b"CLB\x01\0\x01\x01\x01\0\0\0\x40\x42\x0f\0";
+
+// lot 1,000,000,000, call 1,000,000,000
+pub const F12_AMOUNTS: [u8; 15] = *b"CLA\x01\0\x01\x01\0\xca\x9a\x3b\0\xca\x9a\x3b";
+
+// 1 by 1, cost 1,000,001
+pub const F13_BOOK: [u8; 15] = *b"CLB\x01\0\x01\x01\x01\0\0\0\x41\x42\x0f\0";
+
+// lot 1,000,000,001, call 1,000,000,000
+pub const F13_AMOUNTS: [u8; 15] = *b"CLA\x01\0\x01\x01\x01\xca\x9a\x3b\0\xca\x9a\x3b";
+
+// 1 by 33
+pub const F14_CALLS: [u8; 7] = *b"CLB\x01\0\x01\x21";
+
+// 1 by 2, bit 2 set
+pub const F14_BIT: [u8; 11] = *b"CLB\x01\0\x01\x02\x04\0\0\0";
+
+// 2 by 1, lot 0 not eligible for call 0, cost 0
+pub const LONE_BOOK: [u8; 19] = *b"CLB\x01\0\x02\x01\0\0\0\0\x01\0\0\0\0\0\0\0";
+
+// lots 1 1, call 1
+pub const LONE_AMOUNTS: [u8; 19] = *b"CLA\x01\0\x02\x01\x01\0\0\0\x01\0\0\0\x01\0\0\0";

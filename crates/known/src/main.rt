@@ -1,0 +1,119 @@
+// Document 01's known examples, F1 to F14, run through the entry points, and a few more inputs to a run that tempt to another answer.
+mod given;
+mod show;
+
+use specification::Found;
+
+// At most so many bytes of an order buffer, from its start: the file that the finder wrote.
+fn file(order: &[u8], length: usize) -> &[u8] {
+    if length < order.len() {
+        return &order[0..length];
+    }
+    order
+}
+
+fn check(label: &[u8], book: &[u8], order: &[u8]) {
+    show::checked(label, order::check_order(book, order));
+}
+
+fn run(label: &[u8], book: &[u8], order: &[u8], amounts: &[u8]) {
+    let mut flow = [7u32; 5];
+    let answer = run::run_order(book, order, amounts, &mut flow);
+    show::placed(label, b"run_order", answer, &flow);
+}
+
+fn find_and_run(label: &[u8], book: &[u8], amounts: &[u8]) {
+    let mut flow = [7u32; 5];
+    let answer = placer::find_and_run(book, amounts, &mut flow);
+    show::placed(label, b"find_and_run", answer, &flow);
+}
+
+// Finds an order, runs the file that was written, and finds and runs in one call.
+fn place(label: &[u8], book: &[u8], amounts: &[u8]) {
+    let mut order = [255u8; 18];
+    let answer = finder::find_order(book, &mut order);
+    show::found(label, answer, &order);
+    if let Found::Length(length) = answer {
+        run(label, book, file(&order, length), amounts);
+    }
+    find_and_run(label, book, amounts);
+}
+
+// F1 to F8.
+fn orders_and_runs() {
+    show::counts(b"F1", b"read_book", book::read_book(&given::F1_BOOK));
+    show::counts(
+        b"F1",
+        b"read_amounts",
+        amounts::read_amounts(&given::F1_BOOK, &given::F1_AMOUNTS),
+    );
+    place(b"F1", &given::F1_BOOK, &given::F1_AMOUNTS);
+    check(b"F2", &given::F1_BOOK, &given::F2_ORDER);
+    check(b"F3", &given::F1_BOOK, &given::F3_ORDER);
+    check(b"F4", &given::F1_BOOK, &given::F4_ORDER);
+    check(b"F5", &given::F5_BOOK, &given::F2_ORDER);
+    check(b"F6", &given::F6_BOOK, &given::F6_ORDER);
+    place(b"F7", &given::F6_BOOK, &given::F7_AMOUNTS);
+    place(b"F8", &given::F6_BOOK, &given::F8_AMOUNTS);
+}
+
+// F9: no order exists. A buffer that is too short comes before that, and amounts that are refused before both.
+fn no_order() {
+    let mut short = [255u8; 18];
+    let answer = finder::find_order(&given::F9_BOOK, &mut short);
+    show::found(b"F9, 18 bytes", answer, &short);
+    let mut order = [255u8; 19];
+    let answer = finder::find_order(&given::F9_BOOK, &mut order);
+    show::found(b"F9", answer, &order);
+    let mut flow = [7u32; 9];
+    let answer = placer::find_and_run(&given::F9_BOOK, &given::F9_AMOUNTS, &mut flow);
+    show::placed(b"F9", b"find_and_run", answer, &flow);
+    find_and_run(b"F9, 5 entries", &given::F9_BOOK, &given::F9_AMOUNTS);
+    find_and_run(b"F9, no amounts", &given::F9_BOOK, b"");
+}
+
+// F10 to F14.
+fn limits() {
+    place(b"F10", &given::F10_BOOK, &given::F10_AMOUNTS);
+    place(b"F11", &given::F10_BOOK, &given::F11_AMOUNTS);
+    place(b"F12", &given::F12_BOOK, &given::F12_AMOUNTS);
+    show::counts(b"F13", b"read_book", book::read_book(&given::F13_BOOK));
+    show::counts(
+        b"F13",
+        b"read_amounts",
+        amounts::read_amounts(&given::F12_BOOK, &given::F13_AMOUNTS),
+    );
+    place(b"F13", &given::F12_BOOK, &given::F13_AMOUNTS);
+    show::counts(b"F14", b"read_book", book::read_book(&given::F14_CALLS));
+    show::counts(b"F14", b"read_book", book::read_book(&given::F14_BIT));
+}
+
+// The whole order is checked before the amounts are looked at. The file that is run ends at the length replied: what stands after it in the
+// buffer is not part of it. A flow needs an entry for each lot with each call, eligible or not. A lot with no eligible pair is left over.
+fn runs() {
+    run(b"F2", &given::F1_BOOK, &given::F2_ORDER, &given::F1_AMOUNTS);
+    run(b"F2, no amounts", &given::F1_BOOK, &given::F2_ORDER, b"");
+    let mut order = [255u8; 18];
+    finder::find_order(&given::F1_BOOK, &mut order);
+    run(
+        b"F1, all of the buffer",
+        &given::F1_BOOK,
+        &order,
+        &given::F1_AMOUNTS,
+    );
+    let mut flow = [7u32; 3];
+    let answer = placer::find_and_run(&given::F6_BOOK, &given::F7_AMOUNTS, &mut flow);
+    show::placed(b"F7, 3 entries", b"find_and_run", answer, &flow);
+    place(
+        b"Lot with no eligible pair",
+        &given::LONE_BOOK,
+        &given::LONE_AMOUNTS,
+    );
+}
+
+fn main() {
+    orders_and_runs();
+    no_order();
+    limits();
+    runs();
+}

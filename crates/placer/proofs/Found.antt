@@ -1,0 +1,106 @@
+-- What the search leaves in its array is what a run asks for. The search goes by the book's table of offsets, whose problem agrees with the
+-- book's own: so where it answers nothing the reply is 13, and where it answers a count, the array's front is the file of the finder's
+-- order. That file passes the check, and finding and running is the run by it.
+use mathlib.Core.Path.{_≡_, refl, sym, _∙_, ap}
+use mathlib.Core.List.{List, []}
+use mathlib.Core.Option.{Option, some, none}
+use Prim.Native.Nat.{ℕ, _+_, _*_, _≤_}
+use native.Mathlib.Omega.{arith}
+use borrow.Author.Tests.{le-ltb}
+use lib.ListN.{length, take, drop}
+use Rattle.transport.specs.Greedy.{Pair}
+use Rattle.transport.specs.Finder.{find}
+use Rattle.transport.proofs.Orders.Length.{order-length}
+use Rattle.transport.proofs.Finder.Find.{find-is-order}
+use Rattle.transport.proofs.Finder.Same.{find-of-same}
+use Rattle.specification.specs.Reply.{Reply, gives, refuses, Size}
+use Rattle.specification.specs.Book.{readBook, problemOf}
+use Rattle.specification.specs.Amounts.{readAmounts}
+use Rattle.specification.specs.OrderFile.{orderFile}
+use Rattle.specification.specs.Check.{checkOrder}
+use Rattle.specification.specs.Run.{runOrder, runFlow}
+use Rattle.specification.specs.Find.{orderOr13, foundToRun, findAndRun, findAndRunFlow}
+use Rattle.specification.proofs.Replies.{not-both}
+use Rattle.specification.proofs.AmountsFiles.{amounts-read}
+use Rattle.specification.proofs.Books.{size-within, book-read}
+use Rattle.specification.proofs.Checks.{check-passes}
+use Rattle.specification.proofs.Finds.{found-passes}
+use Rattle.specification.proofs.FindRuns.{find-and-run-is-run}
+use Rattle.specification.proofs.OrderFiles.{count-back, order-file-taken}
+use Rattle.book.specs.Pairs.{offsetTable}
+use Rattle.book.proofs.Readable.{counts-are}
+use Rattle.book.specs.Table.{problemBy}
+use Rattle.finder.specs.Writing.{Orders}
+use Rattle.finder.specs.declared.inner.Search.{Search}
+use Rattle.finder.specs.declared.inner.Search.the-variants.{Found, Nothing}
+use Rattle.finder.proofs.Books.{states-same}
+
+-- where the amounts are read, so is their book, with the same counts
+pub book-reads : (book amounts : List ℕ) (size : Size) → readAmounts book amounts ≡ gives size → readBook book ≡ gives size
+unfolding readAmounts
+book-reads book amounts size read = by-book (readBook book) refl
+  where
+    by-book : (r : Reply Size) → readBook book ≡ r → readBook book ≡ gives size
+    by-book (gives n) e =
+        e ∙ ap gives (book-read book n e .sizes ∙ sym (amounts-read book amounts size read .0 .sizes))
+    by-book (refuses k vs) e = absurd (not-both {k = k} {vs = vs} read (rw e refl))
+
+-- 13: the amounts are read and the flow is long enough, and there is no order
+pub none-refused : (book amounts flow : List ℕ) (size : Size) → readAmounts book amounts ≡ gives size
+    → size .lots * size .calls ≤ length flow → find (problemOf book) ≡ none
+    → (refuses 13 [] ≡ findAndRun book amounts flow) × (flow ≡ findAndRunFlow book amounts flow)
+unfolding foundToRun findAndRun findAndRunFlow problemOf
+none-refused book amounts flow size read h f =
+    let long = le-ltb _ _ (rw (amounts-read book amounts size read .0 .sizes) at h) in
+    simp (read, long) (rw (f, orderOr13) (refl, refl))
+
+-- the first bytes of the array are the file of the finder's order, which has `count` pairs
+pub record IsFile (book after : List ℕ) (count : ℕ) : Type 0 where
+  pub order : List Pair
+  pub found : find (problemOf book) ≡ some order
+  pub count-is : count ≡ length order
+  pub file-is : take (7 + 2 * count) after ≡ orderFile order
+
+-- the book is readable, and the search went by its table
+module _ (book table buffer after : List ℕ) (n m : ℕ) (reads : readBook book ≡ gives (record { lots = n; calls = m }))
+    (is-its : table ≡ offsetTable book) (r : Search) (answer : Orders (find (problemBy book table n m)) r buffer after) where
+  same-order : find (problemBy book table n m) ≡ find (problemOf book)
+  same-order = find-of-same (states-same book table n m (counts-are book (sym reads)) is-its)
+
+  pub none-found : r ≡ Nothing → find (problemOf book) ≡ none
+  none-found q = by-answer (find (problemBy book table n m)) (sym same-order) answer
+    where
+      by-answer : (o : Option (List Pair)) → find (problemOf book) ≡ o → Orders o r buffer after → find (problemOf book) ≡ none
+      by-answer none f w = f
+      by-answer (some S) f w = let z : _≡_ {A = ℕ} 0 1 = cc in absurd (omega arith)
+
+  pub file-found : (count : ℕ) → r ≡ Found count → IsFile book after count
+  file-found count q = by-answer (find (problemBy book table n m)) (sym same-order) answer
+    where
+      by-answer : (o : Option (List Pair)) → find (problemOf book) ≡ o → Orders o r buffer after → IsFile book after count
+      by-answer none f w = let z : _≡_ {A = ℕ} 0 1 = cc in absurd (omega arith)
+      by-answer (some S) f w =
+          let is : count ≡ length S = cc in
+          record {
+            order = S;
+            found = f;
+            count-is = is;
+            file-is = ap (take (7 + 2 * count)) (w .1) ∙ order-file-taken S count (drop (7 + 2 * length S) buffer) (sym is);
+          }
+
+-- the file has a pair for each eligible one, passes the check, and the run by it is what is asked
+module _ (book after : List ℕ) (count : ℕ) {n : Size} (reads : readBook book ≡ gives n) (file : IsFile book after count) where
+  pub file-passes : checkOrder book (take (7 + 2 * count) after) ≡ gives count
+  file-passes =
+      rw (file .file-is, file .count-is)
+      (check-passes book _ (found-passes book _ (n, reads) (file .found)) ∙ ap gives (count-back (file .order)))
+
+  pub count-within : count ≤ 1024
+  count-within =
+      let long = order-length (find-is-order (problemOf book) (file .order) (file .found)) in
+      omega (arith, file .count-is, long, size-within (book-read book n reads))
+
+  pub runs-file : (amounts flow : List ℕ)
+      → (findAndRun book amounts flow ≡ runOrder book (take (7 + 2 * count) after) amounts flow)
+      × (findAndRunFlow book amounts flow ≡ runFlow book (take (7 + 2 * count) after) amounts flow)
+  runs-file amounts flow = rw (file .file-is) (find-and-run-is-run book amounts flow (file .order) (file .found))

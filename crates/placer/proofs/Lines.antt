@@ -1,0 +1,53 @@
+-- How long a line can be: 17 bytes for a pair of lot and call below 32 with a 32-bit number of units, 48 for an answer's first line,
+-- 29 for a refusal. So the text always fits: 48 + 17 · 1,024 is 17,456.
+use mathlib.Core.Path.{_≡_}
+use mathlib.Core.List.{List, [], _∷_}
+use Prim.Native.Nat.{ℕ, zero, suc, _+_, _*_, _/_, _%_, _^_, _≤_, _<_}
+use native.Mathlib.Nat.{mul-zero, mod-lt, div-lt-iff-lt-mul}
+use native.Mathlib.Omega.{arith}
+use lib.ListN.{length, length-append}
+use Rattle.specification.specs.Text.{decimal, line}
+use Rattle.placer.proofs.Decimals.{digits-length}
+
+two-fields : (a b : List ℕ) → length (line a (b ∷ [])) ≡ length a + length b + 2
+unfolding line
+two-fields a b = simp length-append (omega arith)
+
+three-fields : (a b c : List ℕ) → length (line a (b ∷ c ∷ [])) ≡ length a + length b + length c + 3
+unfolding line
+three-fields a b c = simp length-append (omega arith)
+
+pub pair-line-length : (i j units : ℕ) → i < 32 → j < 32 → units < 2 ^ 32
+    → length (line (decimal i) (decimal j ∷ decimal units ∷ [])) ≤ 17
+pair-line-length i j units hi hj hu =
+    omega (
+      arith,
+      three-fields (decimal i) (decimal j) (decimal units),
+      digits-length 20 1 i (omega arith),
+      digits-length 20 1 j (omega arith),
+      digits-length 20 9 units (omega arith),
+    )
+
+pub first-line-length : (word : List ℕ) (units cost : ℕ) → length word ≤ 5 → units < 2 ^ 64 → cost < 2 ^ 64
+    → length (line word (decimal units ∷ decimal cost ∷ [])) ≤ 48
+first-line-length word units cost hw hu hc =
+    omega (
+      arith,
+      three-fields word (decimal units) (decimal cost),
+      digits-length 20 19 units (omega arith),
+      digits-length 20 19 cost (omega arith),
+    )
+
+pub refused-line-length : (word : List ℕ) (k : ℕ) → length word ≤ 7 → k < 2 ^ 64 → length (line word (decimal k ∷ [])) ≤ 29
+refused-line-length word k hw hk = omega (arith, two-fields word (decimal k), digits-length 20 19 k (omega arith))
+
+-- entry k of a flow of n lots and m calls is that of lot k / m and call k % m
+pub some-calls : (n m k : ℕ) → k < n * m → 0 < m
+some-calls n zero k h = absurd (omega (arith, mul-zero n))
+some-calls n (suc m) k h = omega arith
+
+pub lot-in : (n m k : ℕ) → k < n * m → k / m < n
+lot-in n m k h = div-lt-iff-lt-mul (some-calls n m k h) .1 h
+
+pub call-in : (n m k : ℕ) → k < n * m → k % m < m
+call-in n m k h = mod-lt k (some-calls n m k h)

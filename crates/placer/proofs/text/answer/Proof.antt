@@ -1,0 +1,56 @@
+-- `placer::text::answer` meets its contract: the first line's word and its two numbers, and then the pairs' lines.
+use mathlib.Core.List.{List, [], _∷_}
+use Prim.Native.Nat.{ℕ, _≤_}
+use native.Mathlib.Omega.{arith}
+use borrow.Author.Needs.{needs}
+use lib.ListN.{length}
+use Rattle.specification.specs.Text.{decimal, line}
+use Rattle.placer.specs.Rendering.{Room, Within}
+use Rattle.placer.proofs.Appending.{append-more, room-first, room-rest, within-of, within-more}
+use Rattle.placer.proofs.Lines.{first-line-length}
+use Rattle.placer.proofs.text.answer.Statement.{statement}
+use Rattle.placer.proofs.text.answer.Tie as tie
+
+-- the first line: it is short, there is room for it, and it has been appended before the pairs' lines are
+abbrev first : tie.Start → List ℕ
+first c = line (c .args .verdict .now) (decimal (c .args .units) ∷ decimal (c .args .cost) ∷ [])
+
+first-short : (c : tie.Start) → length (first c) ≤ 48
+first-short c = first-line-length _ _ _ (c .pre .3) (c .fits .units .fits) (c .fits .cost .fits)
+
+first-room : (c : tie.Start) → Room (c .args .out .now) 0 (first c)
+first-room c = record { fits = omega (arith, first-short c) }
+
+first-appended : (c : tie.After-last-two)
+    → let word = c .before .before .before .before in
+    let start = word .before .before .before .before in
+    Within 48 0 (start .args .out .now) (first start) (c .last-two .result) (c .last-two .last .0)
+unfolding line
+first-appended c =
+    let word = c .before .before .before .before in
+    within-of (append-more (word .word .ensures) (c .last-two .ensures)) (first-short (word .before .before .before .before))
+
+word-requires : tie.Need-word-requires
+unfolding line
+word-requires c κs = room-first _ _ (first-room (c .before .before .before))
+
+last-two-requires : tie.Need-last-two-requires
+unfolding line
+last-two-requires c κs =
+    let word = c .before .before .before in
+    room-rest _ (first-room (word .before .before .before .before)) (word .word .ensures)
+
+pair-lines-requires : tie.Need-pair-lines-requires
+pair-lines-requires c κs =
+    let l = c .before .before .before in
+    let start = l .before .before .before .before .before .before .before .before in
+    let first = first-appended l in
+    (start .pre .0, start .pre .1, omega (arith, first .within, first .appended .long, start .pre .2))
+
+returns : tie.Need-returns
+returns c =
+    let p = c .before .before in
+    within-more (first-appended (p .before .before .before .before)) (p .pair-lines .ensures) (omega arith)
+
+pub answer-spec : {M : Type 1} → statement M
+answer-spec = tie.close (tie.spec word-requires last-two-requires pair-lines-requires (λ c. search needs) returns)

@@ -1,0 +1,62 @@
+-- `placer::text::render` meets its contract, at each of the three variants.
+use mathlib.Core.Path.{ap}
+use native.Mathlib.Omega.{arith}
+use borrow.Author.Needs.{needs}
+use Rattle.specification.specs.Reply.{statedPlaced}
+use Rattle.placer.proofs.Whole.{rendered, given-text, refused-text}
+use Rattle.placer.proofs.text.render.Statement.{statement}
+use Rattle.placer.proofs.text.render.Tie as tie
+
+answer-requires : tie.Need-answer-requires
+answer-requires c κs =
+    let p = c .before .before .before in
+    let start = p .before .before .before in
+    let few = start .pre .0 _ (ap statedPlaced (p .placed .given .1)) in
+    (few .0, few .1, omega (arith, start .pre .1), omega arith)
+
+answer-requires-2 : tie.Need-answer-requires-2
+answer-requires-2 c κs =
+    let p = c .before .before .before in
+    let start = p .before .before .before in
+    let few = start .pre .0 _ (ap statedPlaced (p .placed2 .given .1)) in
+    (few .0, few .1, omega (arith, start .pre .1), omega arith)
+
+returns : tie.Need-returns
+returns c =
+    let a = c .before .before in
+    rw (a .before .before .before .before .placed .given .1)
+    (rendered _ _ _ _ (a .answer .ensures) (omega arith) (given-text _ _ _ _))
+
+returns-2 : tie.Need-returns-2
+returns-2 c =
+    let a = c .before .before in
+    rw (a .before .before .before .before .placed2 .given .1)
+    (rendered _ _ _ _ (a .answer2 .ensures) (omega arith) (given-text _ _ _ _))
+
+returns-3 : tie.Need-returns-3
+returns-3 c =
+    let r = c .before .before in
+    let p = r .before .before .before .before in
+    rw (p .placed3 .given .1)
+    (rendered _ _ _ _ (r .refusal .ensures) (omega arith)
+    (λ P lots calls. rw (r .before .number .ensures) (refused-text (p .placed3 .given .0 .0) _ P)))
+
+pub render-spec : {M : Type 1} → statement M
+render-spec =
+    tie.close
+    (tie.spec
+    (λ c. search needs)
+    (λ c. search needs)
+    answer-requires
+    (λ c. search needs)
+    (λ c. search needs)
+    answer-requires-2
+    (λ c. search needs)
+    (λ c κs. search needs)
+    (λ c κs. omega (arith, c .before .before .before .before .before .before .pre .1))
+    (λ c. search needs)
+    returns
+    (λ c. search needs)
+    returns-2
+    (λ c. search needs)
+    returns-3)

@@ -1,0 +1,2 @@
+-- What the printed text's functions promise.
+pub mod Rendering

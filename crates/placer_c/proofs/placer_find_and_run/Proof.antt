@@ -1,0 +1,8 @@
+-- `placer_find_and_run` meets its contract by what `placer::find_and_run` and `told::placed` ensure.
+-- Assumes nothing.
+use borrow.Author.Needs.{needs}
+use Rattle.placer_c.proofs.placer_find_and_run.Statement.{statement}
+use Rattle.placer_c.proofs.placer_find_and_run.Tie as tie
+
+pub placer-find-and-run-spec : {M : Type 1} → statement M
+placer-find-and-run-spec = tie.close (tie.spec (λ c κs. search needs) (λ c κs. search needs) (λ c. search needs) (λ c. (cc, cc)))

@@ -1,0 +1,8 @@
+-- `placer_find_order` meets its contract by what `finder::find_order` and `told::found` ensure.
+-- Assumes nothing.
+use borrow.Author.Needs.{needs}
+use Rattle.placer_c.proofs.placer_find_order.Statement.{statement}
+use Rattle.placer_c.proofs.placer_find_order.Tie as tie
+
+pub placer-find-order-spec : {M : Type 1} → statement M
+placer-find-order-spec = tie.close (tie.spec (λ c κs. search needs) (λ c κs. search needs) (λ c. search needs) (λ c. (cc, cc)))

@@ -1,0 +1,8 @@
+-- `placer_run_order` meets its contract by what `run::run_order` and `told::placed` ensure.
+-- Assumes nothing.
+use borrow.Author.Needs.{needs}
+use Rattle.placer_c.proofs.placer_run_order.Statement.{statement}
+use Rattle.placer_c.proofs.placer_run_order.Tie as tie
+
+pub placer-run-order-spec : {M : Type 1} → statement M
+placer-run-order-spec = tie.close (tie.spec (λ c κs. search needs) (λ c κs. search needs) (λ c. search needs) (λ c. (cc, cc)))

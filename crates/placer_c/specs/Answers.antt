@@ -1,0 +1,46 @@
+-- What a call hands back to C.
+use mathlib.Core.List.{List, [], _∷_}
+use mathlib.Core.Bool.{cond}
+use Prim.Native.Nat.{ℕ, _+_}
+use lib.ListN.{length, getD}
+use lib.Dec.{eqb}
+use Rattle.specification.specs.Reply.{Reply, gives, refuses, Size, Verdict, full, short, Outcome}
+use Rattle.specification.specs.Book.{lotCosts}
+use Rattle.book.specs.Pairs.{rowStart}
+use Rattle.placer_c.specs.declared.Answer.{Answer}
+use Rattle.placer_c.specs.declared.Stretch.{Stretch}
+
+-- four values, 0 for each that a list of fewer does not have
+abbrev pub fourOf : List ℕ → List ℕ
+fourOf vs = getD vs 0 0 ∷ getD vs 1 0 ∷ getD vs 2 0 ∷ getD vs 3 0 ∷ []
+
+abbrev pub answer : ℕ → ℕ → List ℕ → Answer
+answer number verdict vs = record { number = number; verdict = verdict; values = fourOf vs }
+
+-- a refusal is its number and values; what is given is said by `told`
+unfoldable pub answerOf : {A : Type 0} → (A → Answer) → Reply A → Answer
+answerOf told (gives a) = told a
+answerOf told (refuses k vs) = answer k 0 vs
+
+-- n and m
+abbrev pub counts : Size → Answer
+counts size = answer 0 0 (size .lots ∷ size .calls ∷ [])
+
+-- a count of pairs, or a file's length
+abbrev pub number : ℕ → Answer
+number n = answer 0 0 (n ∷ [])
+
+abbrev pub verdictNumber : Verdict → ℕ
+verdictNumber full = 1
+verdictNumber short = 2
+
+-- units and cost
+abbrev pub placed : Outcome → Answer
+placed o = answer 0 (verdictNumber (o .verdict)) (o .units ∷ o .cost ∷ [])
+
+-- the bytes of the book that hold a lot's costs: they follow the word that its row starts with; 0, 0 where there are none
+unfoldable pub stretchOf : List ℕ → ℕ → Stretch
+stretchOf book lot =
+    cond (eqb (length (lotCosts book lot)) 0)
+    (record { start = 0; len = 0 })
+    (record { start = rowStart book lot + 4; len = length (lotCosts book lot) })

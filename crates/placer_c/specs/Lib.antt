@@ -1,0 +1,2 @@
+-- What a call hands back to C.
+pub mod Answers

@@ -1,0 +1,107 @@
+// The entry points for C (include/placer.h). Each takes slices as a pointer and a count of elements, calls the entry point of document 01,
+// and hands its answer back as numbers.
+mod told;
+
+use specification::Lot;
+ghost use mathlib.Core.Path.{_≡_};
+ghost use lib.ListN.{take, drop};
+ghost use Rattle.specification.specs.Book.{readBook, lotCosts};
+ghost use Rattle.specification.specs.Amounts.{readAmounts};
+ghost use Rattle.specification.specs.Check.{checkOrder};
+ghost use Rattle.specification.specs.Run.{runOrder, runFlow};
+ghost use Rattle.specification.specs.Find.{findOrder, findBuffer, findAndRun, findAndRunFlow};
+ghost use Rattle.placer_c.specs.Answers.{answerOf, counts, number, placed, stretchOf};
+
+// A reply: 0 or the refusal's number; 1 for Full, 2 for Short, else 0; and up to four values, the others 0.
+#[repr(C)]
+pub struct Answer {
+    pub number: u32,
+    pub verdict: u32,
+    pub values: [u64; 4],
+}
+
+// A stretch of the caller's book, in bytes.
+#[repr(C)]
+pub struct Stretch {
+    pub start: usize,
+    pub len: usize,
+}
+
+// Reads a book: n and m.
+#[no_mangle]
+pub extern "C" fn placer_read_book(book: &[u8]) -> Answer
+    ensures { λ r. ⌜ r ≡ answerOf counts (readBook (now (book .entry))) ⌝ }
+{
+    told::counts(book::read_book(book))
+}
+
+// The costs of a lot, four bytes each, as a stretch of the book; 0, 0 where it is empty.
+#[no_mangle]
+pub extern "C" fn placer_lot_costs(book: &[u8], lot: usize) -> Stretch
+    ensures { λ r. ⌜ r ≡ stretchOf (now (book .entry)) lot ⌝ }
+    ensures { λ r. ⌜ take (r .len) (drop (r .start) (now (book .entry))) ≡ lotCosts (now (book .entry)) lot ⌝ }
+{
+    let costs = book::lot_costs(book, Lot(lot));
+    let len = costs.len();
+    if len == 0 {
+        return Stretch { start: 0, len: 0 };
+    }
+    let mut at = 7;
+    for i in 0..lot {
+        at += 4 + 4 * u32::count_ones(files::u32_at(book, at)) as usize;
+    }
+    Stretch {
+        start: at + 4,
+        len: len,
+    }
+}
+
+// Reads amounts with their book: n and m.
+#[no_mangle]
+pub extern "C" fn placer_read_amounts(book: &[u8], amounts: &[u8]) -> Answer
+    ensures { λ r. ⌜ r ≡ answerOf counts (readAmounts (now (book .entry)) (now (amounts .entry))) ⌝ }
+{
+    told::counts(amounts::read_amounts(book, amounts))
+}
+
+// Checks an order: its count of pairs.
+#[no_mangle]
+pub extern "C" fn placer_check_order(book: &[u8], order: &[u8]) -> Answer
+    ensures { λ r. ⌜ r ≡ answerOf number (checkOrder (now (book .entry)) (now (order .entry))) ⌝ }
+{
+    told::checked(order::check_order(book, order))
+}
+
+// Runs an order that passes the check: units and cost, and the units of each pair in the flow.
+#[no_mangle]
+pub extern "C" fn placer_run_order(
+    book: &[u8],
+    order: &[u8],
+    amounts: &[u8],
+    flow: &mut [u32],
+) -> Answer
+    ensures { λ r.
+        ⌜ r ≡ answerOf placed (runOrder (now (book .entry)) (now (order .entry)) (now (amounts .entry)) (now (flow .entry))) ⌝ }
+    ensures { λ _.
+        ⌜ now (flow .exit) ≡ runFlow (now (book .entry)) (now (order .entry)) (now (amounts .entry)) (now (flow .entry)) ⌝ }
+{
+    told::placed(run::run_order(book, order, amounts, flow))
+}
+
+// Finds an order and writes its file: the length of the file.
+#[no_mangle]
+pub extern "C" fn placer_find_order(book: &[u8], order: &mut [u8]) -> Answer
+    ensures { λ r. ⌜ r ≡ answerOf number (findOrder (now (book .entry)) (now (order .entry))) ⌝ }
+    ensures { λ _. ⌜ now (order .exit) ≡ findBuffer (now (book .entry)) (now (order .entry)) ⌝ }
+{
+    told::found(finder::find_order(book, order))
+}
+
+// Finds an order and runs it: units and cost, and the units of each pair in the flow.
+#[no_mangle]
+pub extern "C" fn placer_find_and_run(book: &[u8], amounts: &[u8], flow: &mut [u32]) -> Answer
+    ensures { λ r. ⌜ r ≡ answerOf placed (findAndRun (now (book .entry)) (now (amounts .entry)) (now (flow .entry))) ⌝ }
+    ensures { λ _. ⌜ now (flow .exit) ≡ findAndRunFlow (now (book .entry)) (now (amounts .entry)) (now (flow .entry)) ⌝ }
+{
+    told::placed(placer::find_and_run(book, amounts, flow))
+}

@@ -1,0 +1,171 @@
+// The text that is printed of several books and amounts: each refusal that can come, nothing placed, a few lines, and the most lines that
+// a text can have.
+
+// Prints a label, and then the text of two files.
+fn print(label: &[u8], book: &[u8], amounts: &[u8]) {
+    io::write_all(1, label);
+    io::write_all(1, b"\n");
+    let text = placer::printed_text(book, amounts);
+    let bytes = text.bytes;
+    let length = text.length;
+    io::write_all(1, &bytes[..length]);
+}
+
+// 1 by 1, cost 1,000,000.
+const BOOK: [u8; 15] = *b"CLB\x01\0\x01\x01\x01\0\0\0\x40\x42\x0f\0";
+
+fn refused_books() {
+    let amounts = b"CLA\x01\0\x01\x01\x01\0\0\0\x01\0\0\0";
+    print(b"absent files", b"", b"");
+    print(b"book of 6 bytes", b"CLB\x01\0\x01", amounts);
+    print(b"book with another mark", b"CLA\x01\0\x01\x01", amounts);
+    print(b"book of version 256", b"CLB\0\x01\x01\x01", amounts);
+    print(b"book of 33 calls", b"CLB\x01\0\x01\x21", amounts);
+    print(
+        b"book with bit 2 of 2 calls",
+        b"CLB\x01\0\x01\x02\x04\0\0\0",
+        amounts,
+    );
+    print(
+        b"book that ends in a word",
+        b"CLB\x01\0\x01\x02\x04\0\0",
+        amounts,
+    );
+    print(
+        b"book with a cost of 1,000,001",
+        b"CLB\x01\0\x01\x01\x01\0\0\0\x41\x42\x0f\0",
+        amounts,
+    );
+    print(
+        b"book with a byte more",
+        b"CLB\x01\0\x01\x01\x01\0\0\0\x40\x42\x0f\0\0",
+        amounts,
+    );
+}
+
+fn refused_amounts() {
+    print(b"amounts absent", &BOOK, b"");
+    print(
+        b"amounts with another mark",
+        &BOOK,
+        b"CLB\x01\0\x01\x01\x01\0\0\0\x01\0\0\0",
+    );
+    print(
+        b"amounts of version 2",
+        &BOOK,
+        b"CLA\x02\0\x01\x01\x01\0\0\0\x01\0\0\0",
+    );
+    print(
+        b"amounts of 2 calls",
+        &BOOK,
+        b"CLA\x01\0\x01\x02\x01\0\0\0\x01\0\0\0",
+    );
+    print(
+        b"amounts a byte short",
+        &BOOK,
+        b"CLA\x01\0\x01\x01\x01\0\0\0\x01\0\0",
+    );
+    print(
+        b"amounts with a byte more",
+        &BOOK,
+        b"CLA\x01\0\x01\x01\x01\0\0\0\x01\0\0\0\0",
+    );
+    print(
+        b"amount of 1,000,000,001",
+        &BOOK,
+        b"CLA\x01\0\x01\x01\x01\0\0\0\x01\xca\x9a\x3b",
+    );
+}
+
+// F9: no order exists; but where its amounts are refused, that is printed.
+fn no_order() {
+    let book =
+        b"CLB\x01\0\x03\x03\x06\0\0\0\0\0\0\0\0\0\0\0\x05\0\0\0\0\0\0\0\0\0\0\0\x03\0\0\0\0\0\0\0\0\0\0\0";
+    print(
+        b"no order",
+        book,
+        b"CLA\x01\0\x03\x03\x01\0\0\0\x01\0\0\0\x01\0\0\0\x01\0\0\0\x01\0\0\0\x01\0\0\0",
+    );
+    print(b"no order, amounts absent", book, b"");
+}
+
+// F1, F7, F8, F10, F11 and F12.
+fn placed() {
+    print(
+        b"F1",
+        b"CLB\x01\0\x02\x02\x03\0\0\0\x01\0\0\0\x02\0\0\0\x03\0\0\0\x03\0\0\0\x05\0\0\0",
+        b"CLA\x01\0\x02\x02\x05\0\0\0\x04\0\0\0\x03\0\0\0\x06\0\0\0",
+    );
+    let book = b"CLB\x01\0\x02\x02\x03\0\0\0\0\0\0\0\0\0\0\0\x01\0\0\0\0\0\0\0";
+    print(
+        b"F7",
+        book,
+        b"CLA\x01\0\x02\x02\x01\0\0\0\x01\0\0\0\x01\0\0\0\x01\0\0\0",
+    );
+    print(
+        b"F8",
+        book,
+        b"CLA\x01\0\x02\x02\x02\0\0\0\0\0\0\0\x01\0\0\0\0\0\0\0",
+    );
+    let none = b"CLB\x01\0\x01\x01\0\0\0\0";
+    print(b"F10", none, b"CLA\x01\0\x01\x01\x01\0\0\0\x01\0\0\0");
+    print(b"F11", none, b"CLA\x01\0\x01\x01\0\0\0\0\0\0\0\0");
+    print(
+        b"F12",
+        &BOOK,
+        b"CLA\x01\0\x01\x01\0\xca\x9a\x3b\0\xca\x9a\x3b",
+    );
+}
+
+// The lowest byte of a number at a place of a file, if there is room for it.
+fn put(out: &mut [u8], at: usize, x: u32) {
+    if at < out.len() {
+        out[at] = (x % 256) as u8;
+    }
+}
+
+fn put_u32(out: &mut [u8], start: u32, x: u32) {
+    let at = start as usize;
+    put(out, at, x);
+    put(out, at + 1, x / 256);
+    put(out, at + 2, x / 65536);
+    put(out, at + 3, x / 16777216);
+}
+
+// So many 32-bit numbers after the opening of a file: one at every 33rd place, from the first on, and another elsewhere.
+fn fill(out: &mut [u8], count: u16, first: u32, others: u32) {
+    let mut k: u16 = 0;
+    while k < count {
+        put_u32(
+            out,
+            7 + 4 * (k as u32),
+            if k % 33 == 0 { first } else { others },
+        );
+        k += 1;
+    }
+}
+
+// 32 by 32, all eligible at 1,000,000. All amounts are 1,000,000,000 but that of lot 0, which is half of it, so that each other lot goes
+// half to one call and half to the next. Then a file that is longer than any book.
+fn largest() {
+    let mut book = [0u8; 4231];
+    files::write_opening(&mut book, &files::BOOK_MARK, 8224);
+    fill(&mut book, 1056, 4294967295, 1000000);
+    let mut amounts = [0u8; 263];
+    files::write_opening(&mut amounts, &files::AMOUNTS_MARK, 8224);
+    fill(&mut amounts, 64, 1000000000, 1000000000);
+    put_u32(&mut amounts, 7, 500000000);
+    print(b"63 lines", &book, &amounts);
+    let mut long = [0u8; 5000];
+    files::write_opening(&mut long, &files::BOOK_MARK, 8224);
+    fill(&mut long, 1056, 4294967295, 1000000);
+    print(b"book of 5,000 bytes", &long, &amounts);
+}
+
+fn main() {
+    refused_books();
+    refused_amounts();
+    no_order();
+    placed();
+    largest();
+}
