@@ -39,8 +39,7 @@ fn place(label: &[u8], book: &[u8], amounts: &[u8]) {
     find_and_run(label, book, amounts);
 }
 
-// F1 to F8.
-fn orders_and_runs() {
+fn f1() {
     show::counts(b"F1", b"read_book", book::read_book(&given::F1_BOOK));
     show::counts(
         b"F1",
@@ -48,23 +47,32 @@ fn orders_and_runs() {
         amounts::read_amounts(&given::F1_BOOK, &given::F1_AMOUNTS),
     );
     place(b"F1", &given::F1_BOOK, &given::F1_AMOUNTS);
+}
+
+fn f2_to_f4() {
     check(b"F2", &given::F1_BOOK, &given::F2_ORDER);
     check(b"F3", &given::F1_BOOK, &given::F3_ORDER);
     check(b"F4", &given::F1_BOOK, &given::F4_ORDER);
+}
+
+fn f5_to_f8() {
     check(b"F5", &given::F5_BOOK, &given::F2_ORDER);
     check(b"F6", &given::F6_BOOK, &given::F6_ORDER);
     place(b"F7", &given::F6_BOOK, &given::F7_AMOUNTS);
     place(b"F8", &given::F6_BOOK, &given::F8_AMOUNTS);
 }
 
-// F9: no order exists. A buffer that is too short comes before that, and amounts that are refused before both.
-fn no_order() {
+// No order exists. A buffer that is too short comes before that, and amounts that are refused before both.
+fn f9() {
     let mut short = [255u8; 18];
     let answer = finder::find_order(&given::F9_BOOK, &mut short);
     show::found(b"F9, 18 bytes", answer, &short);
     let mut order = [255u8; 19];
     let answer = finder::find_order(&given::F9_BOOK, &mut order);
     show::found(b"F9", answer, &order);
+}
+
+fn f9_in_one_call() {
     let mut flow = [7u32; 9];
     let answer = placer::find_and_run(&given::F9_BOOK, &given::F9_AMOUNTS, &mut flow);
     show::placed(b"F9", b"find_and_run", answer, &flow);
@@ -72,11 +80,13 @@ fn no_order() {
     find_and_run(b"F9, no amounts", &given::F9_BOOK, b"");
 }
 
-// F10 to F14.
-fn limits() {
+fn f10_to_f12() {
     place(b"F10", &given::F10_BOOK, &given::F10_AMOUNTS);
     place(b"F11", &given::F10_BOOK, &given::F11_AMOUNTS);
     place(b"F12", &given::F12_BOOK, &given::F12_AMOUNTS);
+}
+
+fn f13() {
     show::counts(b"F13", b"read_book", book::read_book(&given::F13_BOOK));
     show::counts(
         b"F13",
@@ -84,13 +94,16 @@ fn limits() {
         amounts::read_amounts(&given::F12_BOOK, &given::F13_AMOUNTS),
     );
     place(b"F13", &given::F12_BOOK, &given::F13_AMOUNTS);
+}
+
+fn f14() {
     show::counts(b"F14", b"read_book", book::read_book(&given::F14_CALLS));
     show::counts(b"F14", b"read_book", book::read_book(&given::F14_BIT));
 }
 
-// The whole order is checked before the amounts are looked at. The file that is run ends at the length replied: what stands after it in the
-// buffer is not part of it. A flow needs an entry for each lot with each call, eligible or not. A lot with no eligible pair is left over.
-fn runs() {
+// The whole order is checked before the amounts are looked at. The file that is run ends at the length replied: what stands after it in
+// the buffer is not part of it.
+fn orders_refused() {
     run(b"F2", &given::F1_BOOK, &given::F2_ORDER, &given::F1_AMOUNTS);
     run(b"F2, no amounts", &given::F1_BOOK, &given::F2_ORDER, b"");
     let mut order = [255u8; 18];
@@ -101,6 +114,10 @@ fn runs() {
         &order,
         &given::F1_AMOUNTS,
     );
+}
+
+// A flow needs an entry for each lot with each call, eligible or not. A lot with no eligible pair is left over.
+fn few_pairs() {
     let mut flow = [7u32; 3];
     let answer = placer::find_and_run(&given::F6_BOOK, &given::F7_AMOUNTS, &mut flow);
     show::placed(b"F7, 3 entries", b"find_and_run", answer, &flow);
@@ -112,8 +129,14 @@ fn runs() {
 }
 
 fn main() {
-    orders_and_runs();
-    no_order();
-    limits();
-    runs();
+    f1();
+    f2_to_f4();
+    f5_to_f8();
+    f9();
+    f9_in_one_call();
+    f10_to_f12();
+    f13();
+    f14();
+    orders_refused();
+    few_pairs();
 }

@@ -11,68 +11,70 @@ fn print(label: &[u8], book: &[u8], amounts: &[u8]) {
     io::write_all(1, &bytes[..length]);
 }
 
-// 1 by 1, cost 1,000,000.
+// 1 by 1, cost 1,000,000; lot 1, call 1.
 const BOOK: [u8; 15] = *b"CLB\x01\0\x01\x01\x01\0\0\0\x40\x42\x0f\0";
 
-fn refused_books() {
-    let amounts = b"CLA\x01\0\x01\x01\x01\0\0\0\x01\0\0\0";
+const AMOUNTS: [u8; 15] = *b"CLA\x01\0\x01\x01\x01\0\0\0\x01\0\0\0";
+
+fn print_book(label: &[u8], book: &[u8]) {
+    print(label, book, &AMOUNTS);
+}
+
+fn print_amounts(label: &[u8], amounts: &[u8]) {
+    print(label, &BOOK, amounts);
+}
+
+fn book_openings() {
     print(b"absent files", b"", b"");
-    print(b"book of 6 bytes", b"CLB\x01\0\x01", amounts);
-    print(b"book with another mark", b"CLA\x01\0\x01\x01", amounts);
-    print(b"book of version 256", b"CLB\0\x01\x01\x01", amounts);
-    print(b"book of 33 calls", b"CLB\x01\0\x01\x21", amounts);
-    print(
+    print_book(b"book of 6 bytes", b"CLB\x01\0\x01");
+    print_book(b"book with another mark", b"CLA\x01\0\x01\x01");
+    print_book(b"book of version 256", b"CLB\0\x01\x01\x01");
+    print_book(b"book of 33 calls", b"CLB\x01\0\x01\x21");
+}
+
+fn book_rows() {
+    print_book(
         b"book with bit 2 of 2 calls",
         b"CLB\x01\0\x01\x02\x04\0\0\0",
-        amounts,
     );
-    print(
-        b"book that ends in a word",
-        b"CLB\x01\0\x01\x02\x04\0\0",
-        amounts,
-    );
-    print(
+    print_book(b"book that ends in a word", b"CLB\x01\0\x01\x02\x04\0\0");
+    print_book(
         b"book with a cost of 1,000,001",
         b"CLB\x01\0\x01\x01\x01\0\0\0\x41\x42\x0f\0",
-        amounts,
     );
-    print(
+    print_book(
         b"book with a byte more",
         b"CLB\x01\0\x01\x01\x01\0\0\0\x40\x42\x0f\0\0",
-        amounts,
     );
 }
 
-fn refused_amounts() {
-    print(b"amounts absent", &BOOK, b"");
-    print(
+fn amounts_openings() {
+    print_amounts(b"amounts absent", b"");
+    print_amounts(
         b"amounts with another mark",
-        &BOOK,
         b"CLB\x01\0\x01\x01\x01\0\0\0\x01\0\0\0",
     );
-    print(
+    print_amounts(
         b"amounts of version 2",
-        &BOOK,
         b"CLA\x02\0\x01\x01\x01\0\0\0\x01\0\0\0",
     );
-    print(
+    print_amounts(
         b"amounts of 2 calls",
-        &BOOK,
         b"CLA\x01\0\x01\x02\x01\0\0\0\x01\0\0\0",
     );
-    print(
+}
+
+fn amounts_lengths() {
+    print_amounts(
         b"amounts a byte short",
-        &BOOK,
         b"CLA\x01\0\x01\x01\x01\0\0\0\x01\0\0",
     );
-    print(
+    print_amounts(
         b"amounts with a byte more",
-        &BOOK,
         b"CLA\x01\0\x01\x01\x01\0\0\0\x01\0\0\0\0",
     );
-    print(
+    print_amounts(
         b"amount of 1,000,000,001",
-        &BOOK,
         b"CLA\x01\0\x01\x01\x01\0\0\0\x01\xca\x9a\x3b",
     );
 }
@@ -89,8 +91,7 @@ fn no_order() {
     print(b"no order, amounts absent", book, b"");
 }
 
-// F1, F7, F8, F10, F11 and F12.
-fn placed() {
+fn two_by_two() {
     print(
         b"F1",
         b"CLB\x01\0\x02\x02\x03\0\0\0\x01\0\0\0\x02\0\0\0\x03\0\0\0\x03\0\0\0\x05\0\0\0",
@@ -107,6 +108,9 @@ fn placed() {
         book,
         b"CLA\x01\0\x02\x02\x02\0\0\0\0\0\0\0\x01\0\0\0\0\0\0\0",
     );
+}
+
+fn one_by_one() {
     let none = b"CLB\x01\0\x01\x01\0\0\0\0";
     print(b"F10", none, b"CLA\x01\0\x01\x01\x01\0\0\0\x01\0\0\0");
     print(b"F11", none, b"CLA\x01\0\x01\x01\0\0\0\0\0\0\0\0");
@@ -145,27 +149,38 @@ fn fill(out: &mut [u8], count: u16, first: u32, others: u32) {
     }
 }
 
-// 32 by 32, all eligible at 1,000,000. All amounts are 1,000,000,000 but that of lot 0, which is half of it, so that each other lot goes
-// half to one call and half to the next. Then a file that is longer than any book.
-fn largest() {
+// 32 by 32, all eligible at 1,000,000, at the front of a file; bytes 5 and 6 are 32 and 32.
+fn put_book(out: &mut [u8]) {
+    files::write_opening(out, &files::BOOK_MARK, 32 + 256 * 32);
+    fill(out, 1056, 4294967295, 1000000);
+}
+
+// All amounts are 1,000,000,000 but that of lot 0, which is half of it: each other lot goes half to one call and half to the next.
+fn most_lines() {
     let mut book = [0u8; 4231];
-    files::write_opening(&mut book, &files::BOOK_MARK, 8224);
-    fill(&mut book, 1056, 4294967295, 1000000);
+    put_book(&mut book);
     let mut amounts = [0u8; 263];
-    files::write_opening(&mut amounts, &files::AMOUNTS_MARK, 8224);
+    files::write_opening(&mut amounts, &files::AMOUNTS_MARK, 32 + 256 * 32);
     fill(&mut amounts, 64, 1000000000, 1000000000);
     put_u32(&mut amounts, 7, 500000000);
     print(b"63 lines", &book, &amounts);
-    let mut long = [0u8; 5000];
-    files::write_opening(&mut long, &files::BOOK_MARK, 8224);
-    fill(&mut long, 1056, 4294967295, 1000000);
-    print(b"book of 5,000 bytes", &long, &amounts);
+}
+
+// A file that is longer than any book, and than what is read of it.
+fn too_long() {
+    let mut book = [0u8; 5000];
+    put_book(&mut book);
+    print_book(b"book of 5,000 bytes", &book);
 }
 
 fn main() {
-    refused_books();
-    refused_amounts();
+    book_openings();
+    book_rows();
+    amounts_openings();
+    amounts_lengths();
     no_order();
-    placed();
-    largest();
+    two_by_two();
+    one_by_one();
+    most_lines();
+    too_long();
 }

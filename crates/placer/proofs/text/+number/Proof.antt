@@ -1,4 +1,5 @@
--- `placer::text::number` meets its contract: by its digits' law, the digits of the tenth are appended, and then the last digit. The measure is n.
+-- `placer::text::number` meets its contract: by the law of digits, those of the tenth are appended, and then the last digit. The measure
+-- is n.
 use mathlib.Core.Path.{_≡_}
 use mathlib.Core.List.{[], _∷_, _++_}
 use Prim.Native.Nat.{ℕ, _+_, _/_, _%_, _<_}

@@ -9,4 +9,6 @@ returns : tie.Need-returns
 returns c = append-more (c .before .before .before .before .before .before .put .ensures) (c .before .before .number .ensures)
 
 pub field-spec : {M : Type 1} → statement M
-field-spec = tie.close (tie.spec (λ c κs. record { fits = omega arith }) (λ c κs. record { fits = omega arith }) (λ c. search needs) returns)
+field-spec =
+    tie.close
+    (tie.spec (λ c κs. record { fits = omega arith }) (λ c κs. record { fits = omega arith }) (λ c. search needs) returns)

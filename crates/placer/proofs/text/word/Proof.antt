@@ -21,11 +21,12 @@ loop-holds c = (omega arith, omega arith, append-none _ _)
 
 loop-again : tie.Need-loop-again Inv-loop μ-loop
 loop-again c =
-    let at-loop = c .before .before .before .before .before .before in
+    let p = c .before .before in
+    let at-loop = p .before .before .before .before in
     let bytes = at-loop .before .before .before .args .bytes .now in (
       omega arith,
       omega arith,
-      rw (add-one, take-suc bytes (at-loop .loop .k) 0 (omega arith)) (append-more (at-loop .loop .inv .2) (c .before .before .put .ensures)),
+      rw (add-one, take-suc bytes (at-loop .loop .k) 0 (omega arith)) (append-more (at-loop .loop .inv .2) (p .put .ensures)),
     )
 
 returns : tie.Need-returns Inv-loop μ-loop
