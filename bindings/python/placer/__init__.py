@@ -1,0 +1,54 @@
+"""The collateral placer: bond lots go to margin calls, at the least cost and without passing over a lot that fits.
+
+Simplest call: `place(costs, lots, calls)`. The others work on the files of document 01, over any bytes-like object.
+
+Proved: the library behind every call, its replies and what it writes to each buffer.
+Trusted: this package, ctypes, the declaration of the C interface, the C compiler.
+
+Examples:
+    >>> place([[1, 2], [3, 5]], [5, 4], [3, 6])
+    Placing(full=True, units=9, cost=24, flow=((0, 5), (3, 1)))
+"""
+
+from .entry_points import (
+    FLOW_MAX,
+    ORDER_MAX,
+    Counts,
+    Placing,
+    check_order,
+    find_and_run,
+    find_order,
+    lot_costs,
+    place,
+    read_amounts,
+    read_book,
+    run_order,
+)
+from .files import amounts_bytes, book_bytes, order_bytes
+from .lists import amounts_lists, book_costs, order_pairs
+from .refused import Cause, Refused
+
+__version__ = "1.0.0"
+
+__all__ = [
+    "FLOW_MAX",
+    "ORDER_MAX",
+    "Cause",
+    "Counts",
+    "Placing",
+    "Refused",
+    "amounts_bytes",
+    "amounts_lists",
+    "book_bytes",
+    "book_costs",
+    "check_order",
+    "find_and_run",
+    "find_order",
+    "lot_costs",
+    "order_bytes",
+    "order_pairs",
+    "place",
+    "read_amounts",
+    "read_book",
+    "run_order",
+]

@@ -1,0 +1,7 @@
+"""`python3 -m placer` is the command `placer`."""
+
+import sys
+
+from .cli import main
+
+sys.exit(main())

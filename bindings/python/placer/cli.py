@@ -1,0 +1,200 @@
+"""The command `placer`: places from CSV tables or binary files, shows the files, and exports for other solvers."""
+
+from __future__ import annotations
+
+import argparse
+import csv
+import io
+import sys
+from pathlib import Path
+from typing import Iterator, List, Optional, Sequence
+
+from . import __version__
+from .entry_points import Placing, check_order, find_and_run, find_order, read_amounts, read_book, run_order
+from .files import words
+from .lists import amounts_lists, book_costs, numbers, order_pairs
+from .tables import BadInput, Problem, contents, load, told
+
+FULL, SHORT, REFUSED = 0, 1, 2  # exit status
+
+_ABOUT = f"""Places bond lots to margin calls at the least cost.
+
+FILES are three CSV tables or two binary files:
+  PAIRS LOTS CALLS   tables with the header lines lot,call,cost and lot,amount and call,amount;
+                     a pair that is absent is not eligible; costs are whole hundredths of a cent
+                     per unit, 0 to 1,000,000, amounts whole units, 0 to 1,000,000,000
+  BOOK AMOUNTS       a book (.clb) and an amounts file (.cla), as `placer encode` writes them
+One of FILES may be -, standard input. Lots and calls are at most 32 each.
+
+Exit status: {FULL} placed in full (other commands: done), {SHORT} placed short, {REFUSED} refused or bad input."""
+
+_PROVED = """This command is a front end and not the proved part: the library that it calls is proved, and so is
+the program `place`, which reads the files of `placer encode` and prints the same placing."""
+
+
+def _text(rows: Sequence[Sequence[object]]) -> str:
+    """Return a table with its columns lined up on the right."""
+    cells = [[str(cell) for cell in row] for row in rows]
+    widths = [max(map(len, column)) for column in zip(*cells)]
+    return "".join("  ".join(map(str.rjust, row, widths)) + "\n" for row in cells)
+
+
+def _matrix(cells: Sequence[Sequence[Optional[int]]]) -> str:
+    """Return a table of lots by calls, with - where a pair is not eligible."""
+    head = ["lot\\call", *range(len(cells[0]))]
+    return _text([head, *([lot, *("-" if cell is None else cell for cell in row)] for lot, row in enumerate(cells))])
+
+
+def _write(path: str, text: str) -> None:
+    if path == "-":
+        sys.stdout.write(text)
+    else:
+        Path(path).write_bytes(text.encode())
+
+
+def _units(problem: Problem, placing: Placing) -> str:
+    """Return the placed units as CSV: lot,call,units, for each pair that has any."""
+    out = io.StringIO(newline="")
+    writer = csv.writer(out, lineterminator="\n")
+    writer.writerow(["lot", "call", "units"])
+    for lot, row in zip(problem.lots, placing.flow):
+        writer.writerows((lot, call, units) for call, units in zip(problem.calls, row) if units)
+    return out.getvalue()
+
+
+def _place(options: argparse.Namespace) -> int:
+    problem = load(options.files)
+    if options.order:
+        order = contents(options.order)
+        told(options.order, check_order, problem.book, order)
+        placing = run_order(problem.book, order, problem.amounts)
+    else:
+        placing = told(options.files[0], find_and_run, problem.book, problem.amounts)
+    _write(options.output, _units(problem, placing))
+    if options.flow:
+        Path(options.flow).write_bytes(words(units for row in placing.flow for units in row))
+    print(f"{'full' if placing.full else 'short'}: {placing.units} units, cost {placing.cost}", file=sys.stderr)
+    return FULL if placing.full else SHORT
+
+
+def _encode(options: argparse.Namespace) -> int:
+    problem = load(options.files)
+    files = {"book.clb": problem.book, "amounts.cla": problem.amounts}
+    if options.order:
+        files["order.clo"] = told(options.files[0], find_order, problem.book)
+    for name, data in files.items():
+        (Path(options.to) / name).write_bytes(data)
+    return FULL
+
+
+def _dimacs_lines(problem: Problem) -> Iterator[str]:
+    costs, (lots, calls) = book_costs(problem.book), amounts_lists(problem.amounts)
+    yield "c cost in hundredths of a cent per unit"
+    if sum(lots) != sum(calls):
+        yield f"c totals differ: the lots have {sum(lots)} units, the calls ask for {sum(calls)}"
+    names = [f"lot {name}" for name in problem.lots] + [f"call {name}" for name in problem.calls]
+    yield from (f"c node {node}: {' '.join(name.split())}" for node, name in enumerate(names, 1))
+    arcs = [(i, j, cost) for i, row in enumerate(costs) for j, cost in enumerate(row) if cost is not None]
+    yield f"p min {len(names)} {len(arcs)}"
+    yield from (f"n {node} {units}" for node, units in enumerate(lots + [-units for units in calls], 1) if units)
+    yield from (f"a {i + 1} {len(lots) + j + 1} 0 {min(lots[i], calls[j])} {cost}" for i, j, cost in arcs)
+
+
+def _dimacs(options: argparse.Namespace) -> int:
+    _write(options.output, "\n".join(_dimacs_lines(load(options.files))) + "\n")
+    return FULL
+
+
+def _shown_book(data: bytes) -> str:
+    costs = book_costs(data)
+    pairs = sum(cost is not None for row in costs for cost in row)
+    return f"book: {len(costs)} lots, {len(costs[0])} calls, {pairs} eligible pairs, costs in hundredths of a cent\n" + _matrix(costs)
+
+
+def _shown_order(data: bytes) -> str:
+    order = order_pairs(data)
+    return f"order: {len(order)} pairs\n" + _text([["place", "lot", "call"], *([place, *pair] for place, pair in enumerate(order))])
+
+
+def _shown_amounts(data: bytes) -> str:
+    lots, calls = amounts_lists(data)
+    rows = [[what, number, amount] for what, amounts in (("lot", lots), ("call", calls)) for number, amount in enumerate(amounts)]
+    return f"amounts: the lots have {sum(lots)} units, the calls ask for {sum(calls)}\n" + _text([["", "number", "amount"], *rows])
+
+
+def _shown_flow(path: str, data: bytes, book: str) -> str:
+    costs = told(book, book_costs, contents(book))
+    calls = len(costs[0])
+    if len(data) != 4 * len(costs) * calls:
+        raise BadInput(path, None, f"a flow of this book has {4 * len(costs) * calls} bytes, not {len(data)}")
+    units = numbers(data)
+    flow = [[None if cost is None else units[lot * calls + call] for call, cost in enumerate(row)] for lot, row in enumerate(costs)]
+    return f"flow: {sum(units)} units\n" + _matrix(flow)
+
+
+def _show(options: argparse.Namespace) -> int:
+    data = contents(options.file)
+    shown = {b"CLB": _shown_book, b"CLO": _shown_order, b"CLA": _shown_amounts}.get(data[:3])
+    if shown is None and not options.book:
+        raise BadInput(options.file, None, "neither a book, an order nor amounts; for a flow name its book by --book")
+    sys.stdout.write(told(options.file, shown, data) if shown else _shown_flow(options.file, data, options.book))
+    return FULL
+
+
+def _check(options: argparse.Namespace) -> int:
+    book = contents(options.book)
+    lots, calls = told(options.book, read_book, book)
+    lines = [f"{options.book}: a book of {lots} lots and {calls} calls\n"]
+    for path in options.files:
+        data = contents(path)
+        if data[:3] == b"CLA":
+            told(path, read_amounts, book, data)
+            lines.append(f"{path}: amounts of this book\n")
+        else:
+            lines.append(f"{path}: an order of {told(path, check_order, book, data)} pairs that is good for all amounts\n")
+    sys.stdout.writelines(lines)
+    return FULL
+
+
+def _parser() -> argparse.ArgumentParser:
+    layout = argparse.RawDescriptionHelpFormatter
+    parser = argparse.ArgumentParser(prog="placer", description=_ABOUT, epilog=_PROVED, formatter_class=layout)
+    parser.add_argument("--version", action="version", version=f"placer {__version__}")
+    commands = parser.add_subparsers(dest="command", required=True, metavar="COMMAND")
+
+    def command(name: str, run: object, text: str) -> argparse.ArgumentParser:
+        added = commands.add_parser(name, help=text, description=text, epilog=_PROVED, formatter_class=layout)
+        added.set_defaults(run=run)
+        return added
+
+    place = command("place", _place, "place, and write lot,call,units as CSV")
+    place.add_argument("--order", metavar="FILE", help="place by this order file instead of finding one")
+    place.add_argument("--flow", metavar="FILE", help="write the flow too: the units of all pairs, 32-bit numbers, lot by lot")
+    encode = command("encode", _encode, "write book.clb and amounts.cla")
+    encode.add_argument("--order", action="store_true", help="find an order and write order.clo too")
+    encode.add_argument("--to", metavar="FOLDER", default=".", help="where to write (default: this folder)")
+    dimacs = command("dimacs", _dimacs, "write the DIMACS min-cost flow text, for other solvers to cross-check")
+    for added in (place, dimacs):
+        added.add_argument("-o", "--output", metavar="FILE", default="-", help="where to write (default: standard output)")
+    for added in (place, encode, dimacs):
+        added.add_argument("files", metavar="FILES", nargs="+", help="PAIRS LOTS CALLS, or BOOK AMOUNTS")
+    show = command("show", _show, "show a book, order, amounts or flow file as a table")
+    show.add_argument("--book", metavar="BOOK", help="the book of a flow file, which has no mark of its own")
+    show.add_argument("file", metavar="FILE")
+    check = command("check", _check, "read a book, and check orders and amounts against it")
+    check.add_argument("book", metavar="BOOK")
+    check.add_argument("files", metavar="FILE", nargs="*", help="an order or an amounts file")
+    return parser
+
+
+def main(arguments: Optional[List[str]] = None) -> int:
+    """Run the command and return its exit status."""
+    parser = _parser()
+    options = parser.parse_args(arguments)
+    if options.command in ("place", "encode", "dimacs") and len(options.files) not in (2, 3):
+        parser.error("FILES are three tables (PAIRS LOTS CALLS) or two files (BOOK AMOUNTS)")
+    try:
+        return int(options.run(options))
+    except (BadInput, ImportError, OSError) as error:
+        print(f"placer: {error}", file=sys.stderr)
+        return REFUSED

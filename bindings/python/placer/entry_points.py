@@ -1,0 +1,214 @@
+"""The entry points of document 01 over bytes, and `place` over lists."""
+
+from __future__ import annotations
+
+import ctypes
+import operator
+from dataclasses import dataclass
+from typing import Any, NamedTuple, Optional, Sequence, Tuple
+
+from . import _library
+from ._library import BytesLike, Writable
+from .files import Costs, amounts_bytes, book_bytes
+
+ORDER_MAX = 2055  # bytes of the longest order that the finder writes
+FLOW_MAX = 1024  # entries of the largest flow
+
+
+class Counts(NamedTuple):
+    """How many lots and calls a book has."""
+
+    lots: int
+    calls: int
+
+
+@dataclass(frozen=True)
+class Placing:
+    """What a run placed.
+
+    Attributes:
+        full: nothing is left in any lot or call; the cost is then the least of all allocations that meet everything.
+        units: how many units were placed; no allocation has more.
+        cost: the sum of units times cost, in hundredths of a cent.
+        flow: the units of each pair: `flow[lot][call]`, 0 where not eligible.
+    """
+
+    full: bool
+    units: int
+    cost: int
+    flow: Tuple[Tuple[int, ...], ...]
+
+
+def read_book(book: BytesLike) -> Counts:
+    """Read a book.
+
+    Returns:
+        Its counts of lots and calls.
+
+    Raises:
+        Refused: 1 to 8, the first of document 01's sequence that applies.
+
+    Examples:
+        >>> read_book(book_bytes([[1, 2], [3, 5]]))
+        Counts(lots=2, calls=2)
+    """
+    return Counts(*_library.call("read_book", _library.lend(book))[1][:2])
+
+
+def lot_costs(book: BytesLike, lot: int) -> memoryview:
+    """Return the costs of one lot: that stretch of the caller's own book, not copied.
+
+    Returns:
+        A view of the book, one 32-bit cost for each eligible call, lowest call first.
+        It is empty if the book is refused, if the lot number is n or more, or if the lot is eligible for no call.
+
+    Raises:
+        ValueError: the lot number is below 0 or does not fit 64 bits.
+        TypeError: the book is a view with gaps, of which no part can be returned.
+
+    Examples:
+        >>> book = book_bytes([[1, 2], [3, 5]])
+        >>> list(lot_costs(book, 1)), lot_costs(book, 1).obj is book
+        ([3, 5], True)
+        >>> list(lot_costs(book, 2))
+        []
+    """
+    if not 0 <= operator.index(lot) < 2**64:
+        raise ValueError("a lot number is 0 or more, and fits 64 bits")
+    return memoryview(book).cast("B")[_library.stretch(_library.lend(book), lot)].cast("I")
+
+
+def read_amounts(book: BytesLike, amounts: BytesLike) -> Counts:
+    """Read amounts with their book.
+
+    Returns:
+        The counts of lots and calls.
+
+    Raises:
+        Refused: the book's refusal; then 1, 2, 3, 15, 6, 8 or 16 of the amounts.
+
+    Examples:
+        >>> read_amounts(book_bytes([[1, 2], [3, 5]]), amounts_bytes([5, 4], [3, 6]))
+        Counts(lots=2, calls=2)
+    """
+    return Counts(*_library.call("read_amounts", _library.lend(book), _library.lend(amounts))[1][:2])
+
+
+def check_order(book: BytesLike, order: BytesLike) -> int:
+    """Check that an order is a Monge sequence of the book: good for all amounts.
+
+    Returns:
+        Its count of pairs.
+
+    Raises:
+        Refused: the book's refusal; then 1, 2, 3, 6, 8, 9, 10, 14, 11 or 12 of the order.
+
+    Examples:
+        >>> from placer import order_bytes
+        >>> book = book_bytes([[1, 2], [3, 5]])
+        >>> check_order(book, order_bytes([(0, 1), (1, 0), (0, 0), (1, 1)]))
+        4
+        >>> check_order(book, order_bytes([(0, 0), (0, 1), (1, 0), (1, 1)]))
+        Traceback (most recent call last):
+        ...
+        placer.refused.Refused: refused 12: lot 0, call 0 comes too early in the order: its cost and that of lot 1, call 1 sum too high
+    """
+    return _library.call("check_order", _library.lend(book), _library.lend(order))[1][0]
+
+
+def find_order(book: BytesLike, buffer: Optional[Writable] = None) -> bytes:
+    """Find an order that is good for all amounts.
+
+    Args:
+        book: the book file.
+        buffer: bytes to write the order file into as well; those after the file keep their contents. By default none.
+
+    Returns:
+        The order file.
+
+    Raises:
+        Refused: the book's refusal; then 17, or 13 if no order exists.
+
+    Examples:
+        >>> from placer import order_pairs
+        >>> order_pairs(find_order(book_bytes([[1, 2], [3, 5]])))
+        [(0, 1), (0, 0), (1, 0), (1, 1)]
+    """
+    lent = _library.lend_items(bytearray(ORDER_MAX) if buffer is None else buffer, 1)
+    length = _library.call("find_order", _library.lend(book), lent)[1][0]
+    return bytes(lent[0][:length])
+
+
+def _placing(name: str, flow: Optional[Writable], book: BytesLike, *files: BytesLike) -> Placing:
+    """Call a run, and return its placing; the flow goes to the lent buffer, or to one of our own."""
+    lent = _library.lend_items((ctypes.c_uint32 * FLOW_MAX)() if flow is None else flow, 4)
+    slices: Sequence[Tuple[Any, int]] = [_library.lend(data) for data in (book, *files)]
+    verdict, values = _library.call(name, *slices, lent)
+    lots, calls = slices[0][0][5:7]
+    units = memoryview(lent[0]).cast("B").cast("I")
+    rows = tuple(tuple(units[lot * calls : (lot + 1) * calls]) for lot in range(lots))
+    return Placing(verdict == _library.FULL, values[0], values[1], rows)
+
+
+def run_order(book: BytesLike, order: BytesLike, amounts: BytesLike, flow: Optional[Writable] = None) -> Placing:
+    """Place the amounts by an order that passes the check.
+
+    Args:
+        book: the book file.
+        order: the order file, as `find_order` returns it.
+        amounts: the amounts file.
+        flow: a buffer of 32-bit items to write the flow into as well, entry lot * calls + call; later ones keep their contents.
+
+    Returns:
+        The placing. If it is not full its cost need not be the least.
+
+    Raises:
+        Refused: the book's refusal; the order's; the amounts'; then 17.
+
+    Examples:
+        >>> book = book_bytes([[1, 2], [3, 5]])
+        >>> run_order(book, find_order(book), amounts_bytes([5, 4], [3, 6]))
+        Placing(full=True, units=9, cost=24, flow=((0, 5), (3, 1)))
+    """
+    return _placing("run_order", flow, book, order, amounts)
+
+
+def find_and_run(book: BytesLike, amounts: BytesLike, flow: Optional[Writable] = None) -> Placing:
+    """Find an order and place the amounts by it, in one call.
+
+    Returns:
+        The placing, as `run_order` by the order of `find_order` returns it; `flow` as there.
+
+    Raises:
+        Refused: the book's refusal; the amounts'; 17; or 13 if no order exists.
+
+    Examples:
+        >>> find_and_run(book_bytes([[1, 2], [3, 5]]), amounts_bytes([5, 4], [3, 6]))
+        Placing(full=True, units=9, cost=24, flow=((0, 5), (3, 1)))
+    """
+    return _placing("find_and_run", flow, book, amounts)
+
+
+def place(costs: Costs, lots: Sequence[int], calls: Sequence[int]) -> Placing:
+    """Place lots to calls.
+
+    Args:
+        costs: for each lot in turn the cost of each call, whole hundredths of a cent per unit; None where not eligible.
+        lots: what each lot has, in whole units.
+        calls: what each call asks for.
+
+    Returns:
+        The placing.
+
+    Raises:
+        Refused: a limit of document 01 is passed, the counts differ (15), or no order exists (13): use a flow solver then.
+        ValueError: the rows of costs differ in length, or a number does not fit its field.
+        TypeError: a cost or an amount is no whole number.
+
+    Examples:
+        >>> place([[1, 2], [3, 5]], [5, 4], [3, 6])
+        Placing(full=True, units=9, cost=24, flow=((0, 5), (3, 1)))
+        >>> place([[0, 0], [0, None]], [2, 0], [1, 0])
+        Placing(full=False, units=1, cost=0, flow=((1, 0), (0, 0)))
+    """
+    return find_and_run(book_bytes(costs), amounts_bytes(lots, calls))

@@ -1,0 +1,93 @@
+"""The three files of document 01, made from lists. What the library refuses is not tested here."""
+
+from __future__ import annotations
+
+import operator
+import struct
+from typing import Iterable, Optional, Sequence, Tuple
+
+Costs = Sequence[Sequence[Optional[int]]]
+
+
+def _opening(mark: bytes, last: bytes) -> bytes:
+    return mark + b"\x01\x00" + last
+
+
+def words(numbers: Iterable[int]) -> bytes:
+    """Return the bytes of 32-bit numbers."""
+    whole = [operator.index(number) for number in numbers]
+    try:
+        return struct.pack(f"<{len(whole)}I", *whole)
+    except struct.error:
+        raise ValueError("costs and amounts are 0 to 4,294,967,295 in the files") from None
+
+
+def book_bytes(costs: Costs) -> bytes:
+    """Make a book file.
+
+    Args:
+        costs: for each lot in turn the cost of each call, whole hundredths of a cent per unit; None where not eligible.
+
+    Returns:
+        The bytes of the book, to be read by any call of this package.
+
+    Raises:
+        ValueError: the rows differ in length, or a number does not fit its field.
+        TypeError: a cost is neither None nor a whole number.
+
+    Examples:
+        >>> book_bytes([[1, 2], [3, 5]]).hex(" ", 4)
+        '434c42 01000202 03000000 01000000 02000000 03000000 03000000 05000000'
+    """
+    calls = len(costs[0]) if costs else 0
+    parts = [_opening(b"CLB", bytes([len(costs), calls]))]
+    for lot, row in enumerate(costs):
+        if len(row) != calls:
+            raise ValueError(f"lot {lot} has {len(row)} costs, lot 0 has {calls}")
+        word = sum(1 << call for call, cost in enumerate(row) if cost is not None)
+        # Of more than 32 calls the word holds the first 32: such a book is refused before its words are read.
+        parts.append(words([word % 2**32, *(cost for cost in row if cost is not None)]))
+    return b"".join(parts)
+
+
+def order_bytes(pairs: Iterable[Tuple[int, int]]) -> bytes:
+    """Make an order file.
+
+    Args:
+        pairs: (lot, call) in the order wanted.
+
+    Returns:
+        The bytes of the order.
+
+    Raises:
+        ValueError: a lot or call number is outside 0 to 255, or there are more than 65,535 pairs.
+
+    Examples:
+        >>> order_bytes([(0, 1), (0, 0), (1, 0), (1, 1)]).hex(" ")
+        '43 4c 4f 01 00 04 00 00 01 00 00 01 00 01 01'
+    """
+    flat = bytes(number for lot, call in pairs for number in (lot, call))
+    if len(flat) > 2 * 65535:
+        raise ValueError("an order file holds at most 65,535 pairs")
+    return _opening(b"CLO", struct.pack("<H", len(flat) // 2)) + flat
+
+
+def amounts_bytes(lots: Sequence[int], calls: Sequence[int]) -> bytes:
+    """Make an amounts file.
+
+    Args:
+        lots: what each lot has, in whole units.
+        calls: what each call asks for.
+
+    Returns:
+        The bytes of the amounts.
+
+    Raises:
+        ValueError: a number does not fit its field.
+        TypeError: an amount is no whole number.
+
+    Examples:
+        >>> amounts_bytes([5, 4], [3, 6]).hex(" ", 4)
+        '434c41 01000202 05000000 04000000 03000000 06000000'
+    """
+    return _opening(b"CLA", bytes([len(lots), len(calls)])) + words([*lots, *calls])

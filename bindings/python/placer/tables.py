@@ -1,0 +1,130 @@
+"""The command's input: three CSV tables, or a book and an amounts file."""
+
+from __future__ import annotations
+
+import csv
+import io
+import sys
+from dataclasses import dataclass
+from typing import Any, Callable, Dict, Iterator, List, Optional, Sequence, Tuple
+
+from .entry_points import read_amounts, read_book
+from .files import amounts_bytes, book_bytes
+from .refused import Cause, Refused
+
+MOST = 32  # lots or calls
+COST_MOST = 1_000_000
+AMOUNT_MOST = 1_000_000_000
+
+
+class BadInput(Exception):
+    """A file that cannot be used, with the line where there is one."""
+
+    def __init__(self, path: str, line: Optional[int], cause: str) -> None:
+        """Name the file, the line and the cause."""
+        where = "standard input" if path == "-" else path
+        super().__init__(f"{where}:{line}: {cause}" if line else f"{where}: {cause}")
+
+
+@dataclass(frozen=True)
+class Problem:
+    """A book and amounts, with the names of their lots and calls."""
+
+    lots: Sequence[str]
+    calls: Sequence[str]
+    book: bytes
+    amounts: bytes
+
+
+def told(path: str, call: Callable[..., Any], *arguments: Any) -> Any:
+    """Return what a call of the library returns; its refusal is told of this file."""
+    try:
+        return call(*arguments)
+    except Refused as refused:
+        hint = "; use a flow solver on what `placer dimacs` writes" if refused.cause is Cause.NO_ORDER else ""
+        raise BadInput(path, None, str(refused) + hint) from None
+
+
+def contents(path: str) -> bytes:
+    """Return the bytes of a file, or of standard input for "-"."""
+    if path == "-":
+        return sys.stdin.buffer.read()
+    try:
+        with open(path, "rb") as file:
+            return file.read()
+    except OSError as error:
+        raise BadInput(path, None, str(error.strerror)) from None
+
+
+def _rows(path: str, header: str) -> Iterator[Tuple[int, List[str]]]:
+    """Yield the line and the fields of each row after the header line; blank lines are passed over."""
+    try:
+        text = contents(path).decode("utf-8-sig")
+    except UnicodeDecodeError:
+        raise BadInput(path, None, "is not UTF-8 text") from None
+    reader = csv.reader(io.StringIO(text, newline=""), strict=True)
+    expected = header.split(",")
+    try:
+        if next(reader, None) != expected:
+            raise BadInput(path, 1, f"the header line must be {header}")
+        for fields in reader:
+            if fields and len(fields) != len(expected):
+                raise BadInput(path, reader.line_num, f"{len(fields)} fields, not {len(expected)}")
+            if fields:
+                yield reader.line_num, fields
+    except csv.Error as error:
+        raise BadInput(path, reader.line_num, str(error)) from None
+
+
+def _whole(path: str, line: int, what: str, text: str, most: int, number: Cause) -> int:
+    """Return a whole number of 0 to `most`."""
+    digits = text.strip()
+    if not (digits.isascii() and digits.isdigit()):
+        raise BadInput(path, line, f"the {what} {text!r} is not a whole number")
+    if len(digits.lstrip("0")) > len(str(most)) or int(digits) > most:
+        raise BadInput(path, line, f"the {what} {digits} is above {most:,} (refusal {number.value})")
+    return int(digits)
+
+
+def _amounts(path: str, what: str) -> Dict[str, int]:
+    """Return the amount of each lot or call by its name, in order of first appearance."""
+    amounts: Dict[str, int] = {}
+    for line, (name, amount) in _rows(path, f"{what},amount"):
+        if name in amounts:
+            raise BadInput(path, line, f"the {what} {name!r} stands here a second time")
+        if len(amounts) == MOST:
+            raise BadInput(path, line, f"more than {MOST} {what}s (refusal {Cause.COUNT_OUTSIDE.value})")
+        amounts[name] = _whole(path, line, "amount", amount, AMOUNT_MOST, Cause.AMOUNT_TOO_HIGH)
+    if not amounts:
+        raise BadInput(path, None, f"no {what}s (refusal {Cause.COUNT_OUTSIDE.value})")
+    return amounts
+
+
+def _from_tables(pairs: str, lots: str, calls: str) -> Problem:
+    """Return the problem of the three tables; a pair that is absent is not eligible."""
+    has, asks = _amounts(lots, "lot"), _amounts(calls, "call")
+    costs: Dict[Tuple[str, str], int] = {}
+    for line, (lot, call, cost) in _rows(pairs, "lot,call,cost"):
+        for what, name, path, names in (("lot", lot, lots, has), ("call", call, calls, asks)):
+            if name not in names:
+                raise BadInput(pairs, line, f"the {what} {name!r} is not in {path}")
+        if (lot, call) in costs:
+            raise BadInput(pairs, line, f"the pair {lot!r}, {call!r} stands here a second time")
+        costs[lot, call] = _whole(pairs, line, "cost", cost, COST_MOST, Cause.COST_TOO_HIGH)
+    book = book_bytes([[costs.get((lot, call)) for call in asks] for lot in has])
+    return Problem(list(has), list(asks), book, amounts_bytes(list(has.values()), list(asks.values())))
+
+
+def _from_files(book: str, amounts: str) -> Problem:
+    """Return the problem of a book and an amounts file, whose lots and calls are named by their numbers."""
+    data = contents(book), contents(amounts)
+    lots, calls = told(book, read_book, data[0])
+    told(amounts, read_amounts, *data)
+    return Problem([str(lot) for lot in range(lots)], [str(call) for call in range(calls)], *data)
+
+
+def load(paths: Sequence[str]) -> Problem:
+    """Return the problem of three CSV tables (pairs, lots, calls) or of two files (book, amounts)."""
+    if list(paths).count("-") > 1:
+        raise BadInput("-", None, "can be read once only")
+    return _from_tables(*paths) if len(paths) == 3 else _from_files(*paths)

@@ -1,0 +1,23 @@
+"""What the tests share: the files of F1, and a test case that knows refusals."""
+
+import unittest
+
+from placer import Refused, amounts_bytes, book_bytes, order_bytes
+
+F1 = [[1, 2], [3, 5]]
+BOOK = book_bytes(F1)
+ORDER = order_bytes([(0, 1), (0, 0), (1, 0), (1, 1)])
+AMOUNTS = amounts_bytes([5, 4], [3, 6])
+NO_ORDER = [[None if lot == call else 0 for call in range(3)] for lot in range(3)]  # F9
+
+
+class Case(unittest.TestCase):
+    """A test case with a check for refusals."""
+
+    def refused(self, number, values, call, *arguments):
+        """Check that a call is refused so, and that the last argument, a lent buffer or not, keeps its contents."""
+        before = arguments[-1][:]
+        with self.assertRaises(Refused) as caught:
+            call(*arguments)
+        self.assertEqual((caught.exception.number, caught.exception.values), (number, values))
+        self.assertEqual(arguments[-1], before)

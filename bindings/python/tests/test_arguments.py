@@ -1,0 +1,98 @@
+"""What the calls take: every bytes-like object, whole numbers, and buffers of the right kind."""
+
+import dataclasses
+import mmap
+import os
+import subprocess
+import sys
+import tempfile
+import unittest
+from array import array
+
+import placer
+from placer import amounts_bytes, book_bytes, order_bytes
+from support import AMOUNTS, BOOK, F1, Case
+
+
+class Arguments(Case):
+    """Arguments, good and bad."""
+
+    def test_bytes_like(self):
+        """Each kind of bytes-like object reads the same, and its costs are views of it."""
+        with tempfile.TemporaryFile() as file:
+            file.write(BOOK)
+            file.flush()
+            with mmap.mmap(file.fileno(), 0, access=mmap.ACCESS_READ) as mapped:
+                self.assertEqual(placer.read_book(mapped), (2, 2))
+        strided = memoryview(bytes(byte for pair in zip(BOOK, BOOK) for byte in pair))[::2]
+        self.assertEqual(placer.find_and_run(strided, AMOUNTS).flow, ((0, 5), (3, 1)))
+        self.assertRaises(TypeError, placer.lot_costs, strided, 0)
+        for book in (BOOK, bytearray(BOOK), memoryview(BOOK), memoryview(bytearray(BOOK)), array("B", BOOK)):
+            self.assertEqual(placer.find_and_run(book, bytearray(AMOUNTS)).cost, 24)
+            view = placer.lot_costs(book, 0)
+            self.assertEqual((list(view), view.itemsize), ([1, 2], 4))
+            self.assertIs(view.obj, memoryview(book).obj)
+
+    def test_own_book(self):
+        """A change of the book shows in the view."""
+        book = bytearray(BOOK)
+        view = placer.lot_costs(book, 1)
+        book[23] = 9
+        self.assertEqual(list(view), [9, 5])
+
+    def test_lot_numbers(self):
+        """A lot outside has no costs; one below 0 or above 64 bits is an error."""
+        for lot in (2, 3, 32, 255, 256, 2**32, 2**32 + 1, 2**64 - 1):
+            self.assertEqual(list(placer.lot_costs(BOOK, lot)), [])
+        for lot in (-1, 2**64):
+            self.assertRaises(ValueError, placer.lot_costs, BOOK, lot)
+        self.assertRaises(TypeError, placer.lot_costs, BOOK, 0.0)
+        self.assertEqual(list(placer.lot_costs(book_bytes([[None], [4]]), 0)), [])
+
+    def test_no_files(self):
+        """What is not bytes-like is a TypeError."""
+        for bad in (None, 7, "CLB", [67, 76]):
+            self.assertRaises(TypeError, placer.read_book, bad)
+            self.assertRaises(TypeError, placer.check_order, BOOK, bad)
+            self.assertRaises(TypeError, placer.find_and_run, BOOK, bad)
+
+    def test_buffers(self):
+        """A buffer to write is writable, contiguous and of the right items."""
+        for bad in (bytes(16), bytearray(16), array("Q", [0] * 4), memoryview(array("I", [0] * 8))[::2]):
+            self.assertRaises(TypeError, placer.find_and_run, BOOK, AMOUNTS, bad)
+        for bad in (bytes(2055), array("I", [0] * 600)):
+            self.assertRaises(TypeError, placer.find_order, BOOK, bad)
+        flow = memoryview(bytearray(16)).cast("I")
+        placer.find_and_run(BOOK, AMOUNTS, flow)
+        self.assertEqual(flow.tolist(), [0, 5, 3, 1])
+
+    def test_lists(self):
+        """The makers of files take whole numbers that fit."""
+        for bad in ([[1, 2], [3]], [[-1]], [[2**32]], [[0]] * 256):
+            self.assertRaises(ValueError, book_bytes, bad)
+        for bad in ([[1.0]], [["1"]], [[float("nan")]]):
+            self.assertRaises(TypeError, book_bytes, bad)
+        self.assertRaises(ValueError, amounts_bytes, [-1], [1])
+        self.assertRaises(TypeError, amounts_bytes, [1.5], [1])
+        self.assertRaises(ValueError, order_bytes, [(0, 256)])
+        self.assertRaises(ValueError, order_bytes, [(0, 0)] * 65536)
+        for costs in ([], [[]], [[0]] * 33):
+            self.refused(4, (), placer.place, costs, [0] * len(costs), [])
+
+    def test_placing(self):
+        """A placing cannot be changed, and compares by value."""
+        placing = placer.place(F1, [5, 4], [3, 6])
+        self.assertRaises(dataclasses.FrozenInstanceError, setattr, placing, "units", 0)
+        self.assertEqual(placing, placer.find_and_run(BOOK, AMOUNTS))
+        self.assertEqual(hash(placing), hash(placer.find_and_run(BOOK, AMOUNTS)))
+
+    def test_absent_library(self):
+        """A library that cannot be loaded is said at the first call, not at import."""
+        script = "import placer; placer.book_bytes([[1]]); placer.read_book(b'')"
+        environment = {**os.environ, "PLACER_LIBRARY": "/nowhere/libplacer.so", "PYTHONPATH": os.pathsep.join(sys.path)}
+        ran = subprocess.run([sys.executable, "-c", script], env=environment, capture_output=True, text=True, check=False)
+        self.assertIn("ImportError: the placer library cannot be loaded", ran.stderr)
+
+
+if __name__ == "__main__":
+    unittest.main()

@@ -1,0 +1,176 @@
+"""The command: its output, messages and exit status."""
+
+import contextlib
+import io
+import os
+import random
+import shutil
+import subprocess
+import sys
+import tempfile
+import unittest
+from pathlib import Path
+from unittest import mock
+
+import placer
+from placer.cli import main
+from support import AMOUNTS, BOOK, NO_ORDER, ORDER, Case
+
+ROOT = Path(placer.__file__).resolve().parents[3]
+TABLES = ["pairs.csv", "lots.csv", "calls.csv"]
+PAIRS, LOTS, CALLS = ((ROOT / "examples" / "csv" / name).read_text() for name in TABLES)
+
+# The table that is wrong, its text, and the message.
+BAD = [
+    ("pairs.csv", "lot,call\n", "pairs.csv:1: the header line must be lot,call,cost"),
+    ("pairs.csv", "", "pairs.csv:1: the header line must be lot,call,cost"),
+    ("pairs.csv", PAIRS + "Bund 2031,Clearing A\n", "pairs.csv:6: 2 fields, not 3"),
+    ("pairs.csv", PAIRS + "Bund 2031,Clearing A,1\n", "pairs.csv:6: the pair 'Bund 2031', 'Clearing A' stands here a second time"),
+    ("pairs.csv", PAIRS + "Gilt,Clearing A,1\n", "pairs.csv:6: the lot 'Gilt' is not in lots.csv"),
+    ("pairs.csv", PAIRS + "Bund 2031,Gilt,1\n", "pairs.csv:6: the call 'Gilt' is not in calls.csv"),
+    ("pairs.csv", PAIRS.replace(",5", ",1000001"), "pairs.csv:5: the cost 1000001 is above 1,000,000 (refusal 7)"),
+    ("pairs.csv", PAIRS.replace(",5", ",nan"), "pairs.csv:5: the cost 'nan' is not a whole number"),
+    ("pairs.csv", PAIRS.replace(",5", ",1.5"), "pairs.csv:5: the cost '1.5' is not a whole number"),
+    ("pairs.csv", PAIRS + '"Bund', "pairs.csv:6: unexpected end of data"),
+    ("lots.csv", LOTS + "OAT 2029,1\n", "lots.csv:4: the lot 'OAT 2029' stands here a second time"),
+    ("lots.csv", LOTS.replace(",5", ",-5"), "lots.csv:2: the amount '-5' is not a whole number"),
+    ("lots.csv", LOTS.replace(",5", ",1000000001"), "lots.csv:2: the amount 1000000001 is above 1,000,000,000 (refusal 16)"),
+    ("lots.csv", "lot,amount\n", "lots.csv: no lots (refusal 4)"),
+    ("calls.csv", "call,amount\n" + "".join(f"{c},0\n" for c in range(33)), "calls.csv:34: more than 32 calls (refusal 4)"),
+    ("calls.csv", b"call,amount\n\xff,0\n", "calls.csv: is not UTF-8 text"),
+    ("calls.csv", None, "calls.csv: No such file or directory"),
+]
+
+
+class Command(Case):
+    """Each subcommand, in a folder that holds the tables of F1."""
+
+    def setUp(self):
+        """Write the tables, and go there."""
+        folder = tempfile.TemporaryDirectory()
+        self.addCleanup(folder.cleanup)
+        self.addCleanup(os.chdir, os.getcwd())
+        os.chdir(folder.name)
+        self.write(dict(zip(TABLES, (PAIRS, LOTS, CALLS))))
+
+    def write(self, files):
+        """Write files of text or bytes; None removes one."""
+        for name, data in files.items():
+            if data is None:
+                os.remove(name)
+            else:
+                Path(name).write_bytes(data if isinstance(data, bytes) else data.encode())
+
+    def run_it(self, *arguments, stdin=b""):
+        """Return the status, the output and the messages."""
+        out, err = io.StringIO(), io.StringIO()
+        with contextlib.redirect_stdout(out), contextlib.redirect_stderr(err):
+            with mock.patch("sys.stdin", io.TextIOWrapper(io.BytesIO(stdin))):
+                try:
+                    status = main(list(arguments))
+                except SystemExit as ended:
+                    status = ended.code
+        return status, out.getvalue(), err.getvalue()
+
+    def test_place(self):
+        """Full, short, by an order, to a file, from standard input and from binary files."""
+        placed = (ROOT / "examples" / "csv" / "placed.csv").read_text()
+        full = (0, placed, "full: 9 units, cost 24\n")
+        self.assertEqual(self.run_it("place", *TABLES), full)
+        self.assertEqual(self.run_it("place", "-", *TABLES[1:], stdin=b"\xef\xbb\xbf" + PAIRS.replace("\n", "\r\n\r\n").encode()), full)
+        self.assertEqual(self.run_it("place", *TABLES, "-o", "out.csv"), (0, "", full[2]))
+        self.assertEqual(Path("out.csv").read_text(), placed)
+        self.write({"order.clo": ORDER, "book.clb": BOOK, "amounts.cla": AMOUNTS, "lots.csv": LOTS.replace(",5", ",4")})
+        out = self.run_it("place", "book.clb", "amounts.cla", "--order", "order.clo")[1]
+        self.assertEqual(out, "lot,call,units\n0,1,5\n1,0,3\n1,1,1\n")
+        self.assertEqual(self.run_it("place", *TABLES)[::2], (1, "short: 8 units, cost 22\n"))
+
+    def test_names(self):
+        """Names are free text, in order of first appearance in the amounts tables."""
+        self.write({"pairs.csv": 'lot,call,cost\n"a, ""b""",é,7\n', "lots.csv": 'lot,amount\nz,0\n"a, ""b""",2\n'})
+        self.write({"calls.csv": "call,amount\né,2\n"})
+        self.assertEqual(self.run_it("place", *TABLES), (0, 'lot,call,units\n"a, ""b""",é,2\n', "full: 2 units, cost 14\n"))
+
+    def test_bad_tables(self):
+        """Each message names file, line and cause."""
+        for name, text, message in BAD:
+            self.write({**dict(zip(TABLES, (PAIRS, LOTS, CALLS))), name: b""})
+            self.write({name: text})
+            self.assertEqual(self.run_it("place", *TABLES), (2, "", f"placer: {message}\n"))
+
+    def test_refused(self):
+        """What the library refuses is told of the file."""
+        zeros = placer.amounts_bytes([0] * 3, [0] * 3)
+        wrong = placer.order_bytes([(0, 0), (0, 1), (1, 0), (1, 1)])
+        self.write({"none.clb": placer.book_bytes(NO_ORDER), "zeros.cla": zeros})
+        self.write({"book.clb": BOOK, "amounts.cla": AMOUNTS, "wrong.clo": wrong})
+        for start, arguments in [
+            ("none.clb: refused 13: no order", ["place", "none.clb", "zeros.cla"]),
+            ("none.clb: refused 13: no order", ["encode", "--order", "none.clb", "zeros.cla"]),
+            ("zeros.cla: refused 15:", ["place", "book.clb", "zeros.cla"]),
+            ("wrong.clo: refused 12:", ["place", "book.clb", "amounts.cla", "--order", "wrong.clo"]),
+            ("wrong.clo: refused 2:", ["check", "wrong.clo"]),
+            ("amounts.cla: refused 15:", ["check", "none.clb", "amounts.cla"]),
+            ("pairs.csv: neither a book", ["show", "pairs.csv"]),
+            ("pairs.csv: a flow of this book has 16 bytes", ["show", "pairs.csv", "--book", "book.clb"]),
+            ("standard input: can be read once", ["place", "-", "-"]),
+        ]:
+            status, out, message = self.run_it(*arguments)
+            self.assertEqual((status, out), (2, ""))
+            self.assertTrue(message.startswith(f"placer: {start}"), message)
+        self.assertFalse(os.path.exists("order.clo"))
+
+    def test_encode_check_show(self):
+        """The files written are those of F1, pass the check, and are shown."""
+        self.assertEqual(self.run_it("encode", "--order", *TABLES), (0, "", ""))
+        self.run_it("place", *TABLES, "--flow", "flow")
+        self.assertEqual([Path(name).read_bytes() for name in ("book.clb", "order.clo", "amounts.cla")], [BOOK, ORDER, AMOUNTS])
+        status, out, _ = self.run_it("check", "book.clb", "order.clo", "amounts.cla")
+        self.assertEqual((status, out.count("\n")), (0, 3))
+        for name, title, last in [
+            ("book.clb", "book: 2 lots, 2 calls, 4 eligible pairs", "       1  3  5\n"),
+            ("order.clo", "order: 4 pairs", "    3    1     1\n"),
+            ("amounts.cla", "amounts: the lots have 9 units, the calls ask for 9", "call       1       6\n"),
+            ("flow", "flow: 9 units", "       1  3  1\n"),
+        ]:
+            status, out, _ = self.run_it("show", name, "--book", "book.clb")
+            self.assertEqual((status, out[: len(title)], out[-len(last) :]), (0, title, last))
+
+    def test_dimacs(self):
+        """The export has a node for each lot and call and an arc for each pair, and says if the totals differ."""
+        status, out, _ = self.run_it("dimacs", *TABLES)
+        lines = [line for line in out.splitlines() if not line.startswith("c ")]
+        nodes, arcs = ["n 1 5", "n 2 4", "n 3 -3", "n 4 -6"], ["a 1 3 0 3 1", "a 1 4 0 5 2", "a 2 3 0 3 3", "a 2 4 0 4 5"]
+        self.assertEqual((status, lines), (0, ["p min 4 4", *nodes, *arcs]))
+        self.write({"lots.csv": LOTS.replace(",5", ",4")})
+        self.assertIn("c totals differ: the lots have 8 units, the calls ask for 9\n", self.run_it("dimacs", *TABLES)[1])
+
+    @unittest.skipUnless(shutil.which("dimacs-solver"), "LEMON's dimacs-solver is not installed")
+    def test_dimacs_solver(self):
+        """LEMON finds the same cost of what is exported."""
+        rng = random.Random(4)
+        for _ in range(10):
+            lots, calls = ([rng.randint(0, 1000) for _ in range(6)] for _ in range(2))
+            costs = [[lot * call for call in calls] for lot in lots]
+            calls[-1] += max(0, sum(lots) - sum(calls))
+            lots[-1] += max(0, sum(calls) - sum(lots))
+            self.write({"book.clb": placer.book_bytes(costs), "amounts.cla": placer.amounts_bytes(lots, calls)})
+            self.assertEqual(self.run_it("dimacs", "book.clb", "amounts.cla", "-o", "book.min")[0], 0)
+            ran = subprocess.run(["dimacs-solver", "book.min"], capture_output=True, text=True, check=True)
+            self.assertIn(f"Min flow cost: {placer.place(costs, lots, calls).cost}\n", ran.stdout + ran.stderr)
+
+    def test_help(self):
+        """Help and version, and the message for a wrong count of files; the module runs as a program."""
+        for arguments in (["--help"], ["place", "--help"], ["show", "--help"]):
+            status, out, _ = self.run_it(*arguments)
+            self.assertEqual((status, "not the proved part" in out), (0, True))
+        self.assertEqual(self.run_it("--version"), (0, f"placer {placer.__version__}\n", ""))
+        self.assertEqual(self.run_it("place", "one")[0], 2)
+        environment = {**os.environ, "PYTHONPATH": str(ROOT / "bindings" / "python")}
+        command = [sys.executable, "-m", "placer", "place", *TABLES]
+        ran = subprocess.run(command, env=environment, capture_output=True, text=True, check=False)
+        self.assertEqual((ran.returncode, ran.stderr), (0, "full: 9 units, cost 24\n"))
+
+
+if __name__ == "__main__":
+    unittest.main()

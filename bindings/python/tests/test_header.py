@@ -1,0 +1,28 @@
+"""The package says the same as the C header: numbers, bounds and version."""
+
+import re
+import unittest
+from pathlib import Path
+
+import placer
+
+HEADER = Path(placer.__file__).resolve().parents[3] / "include" / "placer.h"
+
+
+@unittest.skipUnless(HEADER.exists(), "the header is not beside the package")
+class Header(unittest.TestCase):
+    """What both sides name."""
+
+    def test_numbers(self):
+        """The causes, the verdict Full, the bounds of the buffers, and the version."""
+        text = HEADER.read_text()
+        numbers = {name: int(number) for name, number in re.findall(r"PLACER_(\w+) = (\d+)", text)}
+        self.assertEqual({cause.name: cause.value for cause in placer.Cause}, {name: numbers[name] for name in placer.Cause.__members__})
+        self.assertEqual(numbers["FULL"], 1)
+        bounds = dict(re.findall(r"#define PLACER_(\w+) (\d+)", text))
+        self.assertEqual((placer.ORDER_MAX, placer.FLOW_MAX), (int(bounds["ORDER_MAX"]), int(bounds["FLOW_MAX"])))
+        self.assertIn(f'PLACER_VERSION "{placer.__version__}"', text)
+
+
+if __name__ == "__main__":
+    unittest.main()

@@ -1,0 +1,81 @@
+"""The known examples F1 to F14 of document 01."""
+
+import unittest
+
+import placer
+from placer import amounts_bytes, book_bytes, order_bytes
+from support import F1, NO_ORDER, Case
+
+F6 = [[0, 0], [0, None]]
+MOST = 1_000_000_000
+
+
+def pairs(text):
+    """Return the pairs of a text as "01 00 10 11"."""
+    return [(int(pair[0]), int(pair[1])) for pair in text.split()]
+
+
+class Known(Case):
+    """Each example by its number."""
+
+    def placed(self, costs, lots, calls, *expected):
+        """Check that both ways of placing give this answer: full, units, cost and, if given, the flow."""
+        book, amounts = book_bytes(costs), amounts_bytes(lots, calls)
+        for placing in (placer.find_and_run(book, amounts), placer.run_order(book, placer.find_order(book), amounts)):
+            self.assertEqual((placing.full, placing.units, placing.cost, placing.flow)[: len(expected)], expected)
+
+    def order(self, costs, text):
+        """Return a book and an order of it."""
+        return book_bytes(costs), order_bytes(pairs(text))
+
+    def test_f1(self):
+        """The order found, and the placing by it."""
+        self.assertEqual(placer.find_order(book_bytes(F1)), order_bytes(pairs("01 00 10 11")))
+        self.placed(F1, [5, 4], [3, 6], True, 9, 24, ((0, 5), (3, 1)))
+
+    def test_f2_to_f6(self):
+        """Orders that pass and orders that fail."""
+        self.refused(12, (0, 0, 1, 1), placer.check_order, *self.order(F1, "00 01 10 11"))
+        self.refused(12, (1, 1, 0, 0), placer.check_order, *self.order(F1, "11 00 01 10"))
+        self.assertEqual(placer.check_order(*self.order(F1, "01 10 00 11")), 4)
+        self.assertEqual(placer.check_order(*self.order([[1, 2], [3, 4]], "00 01 10 11")), 4)
+        self.refused(11, (0, 0, 1, 1), placer.check_order, *self.order(F6, "00 01 10"))
+
+    def test_f7_f8(self):
+        """A pair that is not eligible."""
+        self.assertEqual(placer.order_pairs(placer.find_order(book_bytes(F6))), pairs("01 00 10"))
+        self.placed(F6, [1, 1], [1, 1], True, 2, 0)
+        self.placed(F6, [2, 0], [1, 0], False, 1, 0)
+
+    def test_f9(self):
+        """A book without an order."""
+        self.refused(13, (), placer.find_order, book_bytes(NO_ORDER))
+        self.refused(13, (), placer.place, NO_ORDER, [1, 1, 1], [1, 1, 1])
+
+    def test_f10_f11(self):
+        """No eligible pair."""
+        self.assertEqual(placer.find_order(book_bytes([[None]])), order_bytes([]))
+        self.placed([[None]], [1], [1], False, 0, 0, ((0,),))
+        self.placed([[None]], [0], [0], True, 0, 0, ((0,),))
+
+    def test_f12_f13(self):
+        """The largest cost and amount, and one more of each."""
+        self.placed([[1_000_000]], [MOST], [MOST], True, MOST, 10**15)
+        self.refused(7, (0, 0), placer.place, [[1_000_001]], [MOST], [MOST])
+        self.refused(16, (), placer.place, [[1_000_000]], [MOST + 1], [MOST])
+
+    def test_largest(self):
+        """The largest book and amounts: 32 by 32, every cost and amount at its limit."""
+        most = [MOST] * 32
+        self.placed([[1_000_000] * 32] * 32, most, most, True, 32 * MOST, 32 * 10**15)
+
+    def test_f14(self):
+        """Too many calls, and a bit outside."""
+        self.refused(4, (), placer.place, [[0] * 33], [1], [0] * 33)
+        book = bytearray(book_bytes([[0, None]]))
+        book[7] = 4
+        self.refused(5, (0,), placer.read_book, book)
+
+
+if __name__ == "__main__":
+    unittest.main()

@@ -1,0 +1,63 @@
+"""The library against the plain version of document 01, on random small books."""
+
+import random
+import unittest
+
+import model
+import placer
+from placer import amounts_bytes, book_bytes, order_bytes
+
+
+def books(count, seed):
+    """Yield random books with gaps, many of which have an order, with amounts of equal and of unequal total."""
+    rng = random.Random(seed)
+    for turn in range(count):
+        lots, calls = rng.randint(1, 5), rng.randint(1, 5)
+        rows, columns = ([rng.randint(0, 4) for _ in range(size)] for size in (lots, calls))
+        noise, gaps = (turn % 3) // 2, (0, 0.15, 0.4)[turn % 5 % 3]
+        costs = [[None if rng.random() < gaps else a * b + rng.randint(0, noise) for b in columns] for a in rows]
+        amounts = [rng.randint(0, 5) for _ in rows], [rng.randint(0, 5) for _ in columns]
+        gap = sum(amounts[0]) - sum(amounts[1])
+        if turn % 2:
+            amounts[gap > 0][0] += abs(gap)
+        yield rng, costs, amounts
+
+
+class Model(unittest.TestCase):
+    """Replies and flows are those of the plain version."""
+
+    def reply(self, call, *files):
+        """Return what a call returns, or its refusal."""
+        try:
+            return call(*files)
+        except placer.Refused as refused:
+            return refused.number, refused.values
+
+    def test_books(self):
+        """Finder, run and check on the same books, with the finder's order and a shuffled one."""
+        found = full = 0
+        for rng, costs, amounts in books(400, 1):
+            book, file = book_bytes(costs), amounts_bytes(*amounts)
+            order = model.find(costs)
+            placing = self.reply(placer.find_and_run, book, file)
+            if order is None:
+                self.assertEqual(placing, (13, ()))
+            else:
+                self.assertEqual(placer.find_order(book), order_bytes(order))
+                self.assertEqual(placer.check_order(book, order_bytes(order)), len(order))
+                self.assertEqual(placing, placer.Placing(*model.greedy(costs, order, *amounts)))
+                self.assertEqual(placing, placer.run_order(book, order_bytes(order), file))
+                found, full = found + 1, full + placing.full
+            pairs = order or model.pairs(costs)
+            for _ in range(3):
+                if len(pairs) > 1:
+                    first, second = rng.sample(range(len(pairs)), 2)
+                    pairs[first], pairs[second] = pairs[second], pairs[first]
+                failure = model.check(costs, pairs)
+                self.assertEqual(self.reply(placer.check_order, book, order_bytes(pairs)), failure or len(pairs))
+            self.assertEqual(placer.book_costs(book), costs)
+        self.assertGreater(min(found, full), 50)
+
+
+if __name__ == "__main__":
+    unittest.main()

@@ -1,0 +1,125 @@
+"""Every refusal by its number, with its values; the lent buffers keep their contents."""
+
+import pickle
+import random
+import unittest
+from array import array
+
+import placer
+from placer import Cause, Refused, amounts_bytes, book_bytes, order_bytes
+from support import AMOUNTS, BOOK, NO_ORDER, ORDER, Case
+
+
+def changed(data, at, *new):
+    """Return the bytes with some replaced."""
+    return data[:at] + bytes(new) + data[at + len(new) :]
+
+
+def order(*pairs):
+    """Return an order file."""
+    return order_bytes(pairs)
+
+
+BOOKS = [
+    (1, (), BOOK[:6]),
+    (2, (), b"CLA" + BOOK[3:]),
+    (3, (), changed(BOOK, 4, 1)),
+    (4, (), changed(BOOK, 5, 0)),
+    (4, (), changed(BOOK, 6, 33)),
+    (5, (1,), changed(BOOK, 19 + 3, 128)),
+    (6, (), BOOK[:-1]),
+    (7, (1, 3), book_bytes([[None] * 4, [None, 0, None, 1_000_001]])),
+    (8, (), BOOK + b"\0"),
+]
+ORDERS = [
+    (1, (), b""),
+    (2, (), BOOK),
+    (3, (), changed(ORDER, 3, 2)),
+    (6, (), ORDER[:-1]),
+    (8, (), ORDER + b"\0"),
+    (9, (1,), order((0, 1), (0, 2))),
+    (10, (2,), order((0, 1), (0, 0), (0, 1))),
+    (14, (), order((0, 0))),
+    (12, (0, 0, 1, 1), order((0, 0), (0, 1), (1, 0), (1, 1))),
+]
+AMOUNT_FILES = [
+    (1, (), b"CLA"),
+    (2, (), ORDER),
+    (3, (), changed(AMOUNTS, 3, 0)),
+    (15, (), amounts_bytes([5], [3, 6])),
+    (6, (), AMOUNTS[:-1]),
+    (8, (), AMOUNTS + b"\0"),
+    (16, (), amounts_bytes([5, 4], [3, 1_000_000_001])),
+]
+
+
+class Refusals(Case):
+    """The table "Refused"."""
+
+    def test_books(self):
+        """A refused book refuses every call, before anything else is looked at."""
+        for number, values, book in BOOKS:
+            flow, buffer = array("I", [7] * 4), bytearray(b"7" * 20)
+            self.refused(number, values, placer.read_book, book)
+            self.refused(number, values, placer.read_amounts, book, b"")
+            self.refused(number, values, placer.check_order, book, b"")
+            self.refused(number, values, placer.find_order, book, buffer)
+            self.refused(number, values, placer.run_order, book, b"", b"", flow)
+            self.refused(number, values, placer.find_and_run, book, b"", flow)
+            self.assertEqual(len(placer.lot_costs(book, 0)), 0)
+
+    def test_orders(self):
+        """A refused order, also where the amounts would be refused."""
+        for number, values, file in ORDERS:
+            self.refused(number, values, placer.check_order, BOOK, file)
+            self.refused(number, values, placer.run_order, BOOK, file, b"", array("I"))
+        gap = book_bytes([[0, 0], [0, None]])
+        self.refused(11, (0, 0, 1, 1), placer.check_order, gap, order((0, 0), (0, 1), (1, 0)))
+
+    def test_amounts(self):
+        """Refused amounts, also where the flow buffer is too short."""
+        for number, values, file in AMOUNT_FILES:
+            self.refused(number, values, placer.read_amounts, BOOK, file)
+            self.refused(number, values, placer.run_order, BOOK, ORDER, file, array("I"))
+            self.refused(number, values, placer.find_and_run, BOOK, file, array("I", [7]))
+
+    def test_buffers(self):
+        """Short buffers are 17, before 13; longer ones keep what lies after."""
+        flow, buffer = array("I", [7] * 3), bytearray(b"7" * 14)
+        self.refused(17, (), placer.run_order, BOOK, ORDER, AMOUNTS, flow)
+        self.refused(17, (), placer.find_and_run, BOOK, AMOUNTS, flow)
+        self.refused(17, (), placer.find_order, BOOK, buffer)
+        self.refused(17, (), placer.find_order, book_bytes(NO_ORDER), bytearray(18))
+        self.refused(13, (), placer.find_order, book_bytes(NO_ORDER), bytearray(19))
+        flow, buffer = array("I", [7] * 6), bytearray(b"7" * 17)
+        placer.run_order(BOOK, ORDER, AMOUNTS, flow)
+        placer.find_order(BOOK, buffer)
+        self.assertEqual((flow.tolist(), buffer), ([0, 5, 3, 1, 7, 7], ORDER + b"77"))
+
+    def test_damaged(self):
+        """Files with bytes changed, cut or added are accepted or refused; a refusal leaves the buffer."""
+        rng = random.Random(2)
+        for _ in range(2000):
+            files = [BOOK, ORDER, AMOUNTS]
+            hit = rng.randrange(3)
+            at, cut = rng.randrange(len(files[hit])), rng.choice((0, 0, 1, 2))
+            files[hit] = files[hit][:at] + rng.randbytes(rng.choice((0, 1, 1, 2))) + files[hit][at + cut :]
+            flow = array("I", [7] * 4)
+            try:
+                self.assertEqual(sum(placer.run_order(*files, flow).flow, ()), tuple(flow))
+            except Refused:
+                self.assertEqual(flow.tolist(), [7] * 4)
+
+    def test_exception(self):
+        """The exception is a ValueError with a sentence, and survives pickling."""
+        for cause in Cause:
+            error = pickle.loads(pickle.dumps(Refused(cause, (3, 1, 2, 4))))
+            self.assertIsInstance(error, ValueError)
+            self.assertIs(error.cause, cause)
+            self.assertRegex(str(error), rf"^refused {cause.value}: \w")
+        self.assertEqual([len(Refused(cause, (0,) * 4).values) for cause in Cause], [0, 0, 0, 0, 1, 0, 2, 0, 1, 1, 4, 4, 0, 0, 0, 0, 0])
+        self.assertRaises(ValueError, Refused, 18)
+
+
+if __name__ == "__main__":
+    unittest.main()

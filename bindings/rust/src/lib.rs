@@ -1,0 +1,187 @@
+//! Place bond lots on margin calls, at least cost, by an order of the eligible pairs.
+//!
+//! A *book* says for each lot and call whether the pair is eligible and what a unit costs on it. An *order* lists the eligible pairs;
+//! running it gives each pair in turn the smaller of what its lot has left and what its call still lacks. An order that passes the check
+//! places everything whenever that is possible at all, and then at least cost, whatever the *amounts*.
+//!
+//! The three files are byte slices, laid out as `include/placer.h` says. Every function takes any bytes: it accepts, or refuses by the
+//! first [`Refusal`] in the published sequence. A buffer is written only where the call accepts. Nothing is allocated or kept, nothing
+//! panics, and calls may run in any number of threads. A call takes at most 160 KiB of stack. For x86-64 Linux.
+//!
+//! Proved: every reply and every buffer, for all inputs; that the order found is good, and that one is found whenever a good one exists.
+//! Trusted: the Rattle checker and compiler, this crate's declarations, rustc and the linker.
+//!
+//! ```
+//! use placer::{find_and_run, find_order, run_order, Verdict};
+//!
+//! // Two lots of 5 and 4 units, two calls of 3 and 6, costs 1 2 / 3 5 (example F1).
+//! let book = b"CLB\x01\0\x02\x02\x03\0\0\0\x01\0\0\0\x02\0\0\0\x03\0\0\0\x03\0\0\0\x05\0\0\0";
+//! let amounts = b"CLA\x01\0\x02\x02\x05\0\0\0\x04\0\0\0\x03\0\0\0\x06\0\0\0";
+//!
+//! let mut flow = [0; placer::FLOW_MAX];
+//! let placed = find_and_run(book, amounts, &mut flow)?;
+//! assert_eq!((placed.verdict, placed.units, placed.cost), (Verdict::Full, 9, 24));
+//! assert_eq!(flow[..4], [0, 5, 3, 1]);
+//!
+//! // The same in two steps: the order is found once and run each day.
+//! let mut order = [0; placer::ORDER_MAX];
+//! let length = find_order(book, &mut order)?;
+//! assert_eq!(order[..length], *b"CLO\x01\0\x04\0\0\x01\0\0\x01\0\x01\x01");
+//! assert_eq!(run_order(book, &order[..length], amounts, &mut flow)?, placed);
+//! # Ok::<(), placer::Refusal>(())
+//! ```
+#![no_std]
+#![deny(missing_docs)]
+
+mod refusal;
+mod sys;
+
+pub use refusal::Refusal;
+use sys::Reply;
+
+/// The most lots, and the most calls, of a book.
+pub const SIDE_MAX: usize = 32;
+/// The length of the largest book, in bytes.
+pub const BOOK_MAX: usize = 4231;
+/// A buffer of so many bytes is long enough for every order.
+pub const ORDER_MAX: usize = 2055;
+/// The length of the largest amounts file, in bytes.
+pub const AMOUNTS_MAX: usize = 263;
+/// A flow buffer of so many entries is long enough for every book.
+pub const FLOW_MAX: usize = 1024;
+
+/// The counts of a book.
+#[derive(Clone, Copy, Debug, PartialEq, Eq, Hash)]
+pub struct Size {
+    /// Lots, 1 to 32.
+    pub lots: usize,
+    /// Calls, 1 to 32.
+    pub calls: usize,
+}
+
+/// Whether a run met everything.
+#[derive(Clone, Copy, Debug, PartialEq, Eq, Hash)]
+pub enum Verdict {
+    /// Nothing is left in any lot or call. No other allocation that meets everything costs less.
+    Full,
+    /// A call lacks units, or a lot has units left. No other allocation places more units; one that places as many may cost less.
+    Short,
+}
+
+/// What a run comes to: the sums over the flow written.
+#[derive(Clone, Copy, Debug, PartialEq, Eq, Hash)]
+#[must_use]
+pub struct Placed {
+    /// Whether everything was met.
+    pub verdict: Verdict,
+    /// Units placed.
+    pub units: u64,
+    /// Their cost, in hundredths of a cent.
+    pub cost: u64,
+}
+
+fn accepted<T>(reply: Reply, told: impl FnOnce([usize; 2]) -> T) -> Result<T, Refusal> {
+    match reply.number {
+        0 => Ok(told([reply.values[0] as usize, reply.values[1] as usize])),
+        _ => Err(Refusal::of(reply)),
+    }
+}
+
+fn size(reply: Reply) -> Result<Size, Refusal> {
+    accepted(reply, |[lots, calls]| Size { lots, calls })
+}
+
+fn placed(reply: Reply) -> Result<Placed, Refusal> {
+    let verdict = if reply.verdict == 1 { Verdict::Full } else { Verdict::Short };
+    accepted(reply, |[units, cost]| Placed { verdict, units: units as u64, cost: cost as u64 })
+}
+
+/// Reads a book: its counts.
+///
+/// # Errors
+/// Refusals 1 to 8 of the book.
+///
+/// ```
+/// let one = b"CLB\x01\0\x01\x01\0\0\0\0";
+/// assert_eq!(placer::read_book(one), Ok(placer::Size { lots: 1, calls: 1 }));
+/// assert_eq!(placer::read_book(&one[..9]), Err(placer::Refusal::EndsEarly));
+/// ```
+pub fn read_book(book: &[u8]) -> Result<Size, Refusal> {
+    // SAFETY: here and below, each pointer is that of a slice and goes with its length; what is written is borrowed mutably.
+    size(unsafe { sys::placer_read_book(book.as_ptr(), book.len()) })
+}
+
+/// The stretch of the book with a lot's costs, four bytes each, in the sequence of the lot's eligible calls. It is empty if the book is
+/// refused, the lot is not in it, or no call is eligible for the lot.
+///
+/// ```
+/// let book = b"CLB\x01\0\x02\x02\x03\0\0\0\x01\0\0\0\x02\0\0\0\x03\0\0\0\x03\0\0\0\x05\0\0\0";
+/// assert_eq!(placer::lot_costs(book, 1), b"\x03\0\0\0\x05\0\0\0");
+/// assert!(placer::lot_costs(book, 2).is_empty());
+/// ```
+pub fn lot_costs(book: &[u8], lot: usize) -> &[u8] {
+    let stretch = unsafe { sys::placer_lot_costs(book.as_ptr(), book.len(), lot) };
+    book.get(stretch.start..stretch.start + stretch.len).unwrap_or_default()
+}
+
+/// Reads amounts with their book: the counts.
+///
+/// # Errors
+/// Refusals 1 to 8 of the book; 1, 2, 3, 15, 6, 8, 16 of the amounts.
+pub fn read_amounts(book: &[u8], amounts: &[u8]) -> Result<Size, Refusal> {
+    size(unsafe { sys::placer_read_amounts(book.as_ptr(), book.len(), amounts.as_ptr(), amounts.len()) })
+}
+
+/// Checks an order against a book: its count of pairs. An order that passes is good for all amounts.
+///
+/// # Errors
+/// Refusals 1 to 8 of the book; 1, 2, 3, 6, 8, 9, 10, 14, 11, 12 of the order.
+///
+/// ```
+/// // Example F2: by this order the cheap pair (0, 0) comes first, and the rest can be dearer for it.
+/// let book = b"CLB\x01\0\x02\x02\x03\0\0\0\x01\0\0\0\x02\0\0\0\x03\0\0\0\x03\0\0\0\x05\0\0\0";
+/// let order = b"CLO\x01\0\x04\0\0\0\0\x01\x01\0\x01\x01";
+/// let refusal = placer::check_order(book, order).unwrap_err();
+/// assert_eq!(refusal, placer::Refusal::CrossSumTooHigh { i: 0, j: 0, k: 1, l: 1 });
+/// assert_eq!(refusal.number(), 12);
+/// ```
+pub fn check_order(book: &[u8], order: &[u8]) -> Result<usize, Refusal> {
+    accepted(unsafe { sys::placer_check_order(book.as_ptr(), book.len(), order.as_ptr(), order.len()) }, |[pairs, _]| pairs)
+}
+
+/// Finds an order and writes its file; the length of the file. Later bytes of the buffer are kept. [`ORDER_MAX`] bytes are always enough.
+///
+/// # Errors
+/// Refusals 1 to 8 of the book, then 17, then 13; the buffer is then unchanged.
+pub fn find_order(book: &[u8], order: &mut [u8]) -> Result<usize, Refusal> {
+    accepted(unsafe { sys::placer_find_order(book.as_ptr(), book.len(), order.as_mut_ptr(), order.len()) }, |[length, _]| length)
+}
+
+/// Checks an order and runs it. The units of lot `i` and call `j` go to `flow[i * calls + j]`, 0 where the pair is not eligible; entries
+/// from `lots * calls` on are kept. [`FLOW_MAX`] entries are always enough.
+///
+/// # Errors
+/// The refusals of [`check_order`], those of the amounts, then 17; the flow is then unchanged.
+pub fn run_order(book: &[u8], order: &[u8], amounts: &[u8], flow: &mut [u32]) -> Result<Placed, Refusal> {
+    placed(unsafe {
+        sys::placer_run_order(
+            book.as_ptr(),
+            book.len(),
+            order.as_ptr(),
+            order.len(),
+            amounts.as_ptr(),
+            amounts.len(),
+            flow.as_mut_ptr(),
+            flow.len(),
+        )
+    })
+}
+
+/// Finds an order and runs it in one call; the flow is written as by [`run_order`].
+///
+/// # Errors
+/// The refusals of [`read_amounts`], then 17, then 13; the flow is then unchanged.
+pub fn find_and_run(book: &[u8], amounts: &[u8], flow: &mut [u32]) -> Result<Placed, Refusal> {
+    let (b, a) = (book.as_ptr(), amounts.as_ptr());
+    placed(unsafe { sys::placer_find_and_run(b, book.len(), a, amounts.len(), flow.as_mut_ptr(), flow.len()) })
+}

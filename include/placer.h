@@ -1,0 +1,182 @@
+/* placer.h: place bond lots on margin calls, at least cost, by an order of the eligible pairs.
+ *
+ * This header is the manual of the C library (libplacer.a, libplacer.so; x86-64 Linux only). The rules are those of document 01; what a
+ * caller has to know of them stands here.
+ *
+ * A lot is a source of whole units, a call wants whole units. A book says for each lot and call whether the pair is eligible and what a
+ * unit costs on it. An order lists the eligible pairs; running it gives each pair in turn the smaller of what its lot has left and what
+ * its call still lacks. An order that passes the check places everything whenever that is possible at all, and then at least cost,
+ * whatever the amounts: so an order is agreed once and used daily.
+ *
+ *     uint32_t flow[PLACER_FLOW_MAX];
+ *     placer_reply r = placer_find_and_run(book, book_len, amounts, amounts_len, flow, PLACER_FLOW_MAX);
+ *     if (r.number != PLACER_ACCEPTED) fprintf(stderr, "refused: %s\n", placer_sentence(r.number));
+ *     else printf("%s: %llu units, cost %llu\n", r.verdict == PLACER_FULL ? "all met" : "short",
+ *                 (unsigned long long)r.values[0], (unsigned long long)r.values[1]);
+ *
+ * Files are byte strings that the caller holds: a pointer and a length. They open with a mark of three letters, version 1 in two bytes,
+ * and two bytes of counts; integers are little-endian, the lowest byte first.
+ *   book     "CLB" 1 0 n m; for each of n lots a 32-bit word, bit j set if call j is eligible, and a 32-bit cost for each set bit,
+ *            lowest bit first. n and m are 1 to 32, a cost is 0 to 1,000,000 hundredths of a cent per unit.
+ *   amounts  "CLA" 1 0 n m; n lot amounts and m call amounts, 32 bits each, 0 to 1,000,000,000 units.
+ *   order    "CLO" 1 0, a 16-bit count of pairs; for each pair a byte for its lot and one for its call. Lots and calls count from 0.
+ *
+ * What holds for every call
+ *   - Any bytes and any lengths may be handed over. The call returns; it accepts, or refuses by a number from 1 to 17.
+ *   - What is passed by `const` pointer is read and never written. A buffer is written only where the call accepts; a refusal leaves it
+ *     as it was. Nothing outside the stated lengths is read or written, and no pointer is kept.
+ *   - A pointer may be any non-null pointer where its length is 0. A buffer must not overlap another argument.
+ *   - No heap, no state, no input or output, no signal, no locale: calls on separate buffers may run at once in any number of threads.
+ *   - Stack: at most PLACER_STACK bytes.
+ *   - Several refusals can apply; the one reported is the first in this sequence: the book's (1, 2, 3, 4; then lot by lot 6, 5, 6, 7;
+ *     then 8), the order's (1, 2, 3, 6, 8; at each pair 9, 10; then 14; then 11 or 12), the amounts' (1, 2, 3, 15, 6, 8, 16), then 17,
+ *     and 13 last.
+ *
+ * Proved: every reply and every buffer, for all inputs, by the contracts of crates/placer_c; that the order found is good, and that one is
+ * found whenever a good one exists. Trusted: the Rattle checker and compiler, this header, the C compiler and linker. */
+#ifndef PLACER_H
+#define PLACER_H
+
+#include <stddef.h>
+#include <stdint.h>
+
+#ifdef __cplusplus
+extern "C" {
+#endif
+
+#define PLACER_VERSION_MAJOR 1
+#define PLACER_VERSION_MINOR 0
+#define PLACER_VERSION_PATCH 0
+#define PLACER_VERSION "1.0.0" /* of the library; the files' version is 1 */
+
+#define PLACER_LOTS_MAX 32
+#define PLACER_CALLS_MAX 32
+#define PLACER_PAIRS_MAX 1024
+#define PLACER_COST_MAX 1000000      /* hundredths of a cent per unit */
+#define PLACER_AMOUNT_MAX 1000000000 /* units */
+#define PLACER_BOOK_MAX 4231         /* bytes of the largest book, order and amounts file */
+#define PLACER_ORDER_MAX 2055
+#define PLACER_AMOUNTS_MAX 263
+#define PLACER_FLOW_MAX 1024 /* entries: always enough */
+#define PLACER_STACK 163840  /* bytes: no call takes more (measured; the finder takes most) */
+
+/* The refusals, by their numbers. In brackets the values that stand in `values`, from values[0] on. */
+enum placer_number {
+    PLACER_ACCEPTED = 0,
+    PLACER_UNDER_SEVEN = 1,         /* a file is under 7 bytes */
+    PLACER_MARK_DIFFERS = 2,        /* a file does not open with its mark */
+    PLACER_VERSION_NOT_ONE = 3,     /* a file's version is not 1 */
+    PLACER_COUNT_OUTSIDE = 4,       /* the book's n or m is 0 or above 32 */
+    PLACER_BIT_OUTSIDE = 5,         /* an eligibility bit m or higher is set [lot] */
+    PLACER_ENDS_EARLY = 6,          /* a file ends before its last field */
+    PLACER_COST_TOO_HIGH = 7,       /* a cost is above 1,000,000 [lot, call] */
+    PLACER_BYTES_AFTER = 8,         /* a file has bytes after its last field */
+    PLACER_PAIR_NOT_ELIGIBLE = 9,   /* a pair of the order is not in the book or not eligible [place in the order, from 0] */
+    PLACER_PAIR_MET_BEFORE = 10,    /* a pair stands twice in the order [its second place] */
+    PLACER_CROSS_NOT_ELIGIBLE = 11, /* (i, j) precedes (i, l) and (k, j), and (k, l) is not eligible [i, j, k, l] */
+    PLACER_CROSS_SUM_TOO_HIGH = 12, /* likewise, and cost(i, j) + cost(k, l) > cost(i, l) + cost(k, j) [i, j, k, l] */
+    PLACER_NO_ORDER = 13,           /* no order of this book passes the check */
+    PLACER_PAIR_MISSING = 14,       /* an eligible pair is missing from the order */
+    PLACER_COUNTS_DIFFER = 15,      /* the amounts' n or m differ from the book's */
+    PLACER_AMOUNT_TOO_HIGH = 16,    /* an amount is above 1,000,000,000 */
+    PLACER_BUFFER_TOO_SHORT = 17    /* the buffer lent is too short */
+};
+
+/* The verdict of a run. Short means that a call lacks units or that a lot has units left. Least cost is promised for Full. */
+enum placer_verdict { PLACER_NO_RUN = 0, PLACER_FULL = 1, PLACER_SHORT = 2 };
+
+/* What a call answers. `number` is PLACER_ACCEPTED or a refusal's number. `verdict` is PLACER_FULL or PLACER_SHORT where a run is
+ * accepted, else PLACER_NO_RUN. `values`: as each call says where it accepts, as the list above says where it refuses; the others 0. */
+typedef struct {
+    uint32_t number;
+    uint32_t verdict;
+    uint64_t values[4];
+} placer_reply;
+
+/* Bytes `start` to `start + len - 1` of the caller's book. */
+typedef struct {
+    size_t start;
+    size_t len;
+} placer_stretch;
+
+/* placer_find_and_run: find an order and run it.
+ *   book, amounts    read
+ *   flow, flow_len   written where the call accepts: the units of lot i and call j at flow[i * m + j], 0 where the pair is not eligible;
+ *                    entries from n * m on are kept. flow_len counts entries; below n * m is 17.
+ *   accepted         values: units, cost. Full exactly when some allocation meets every lot and call; then no other costs less.
+ *                    Full or Short, no allocation places more units.
+ *   refused          the book's numbers, the amounts', 17, 13 */
+placer_reply placer_find_and_run(const uint8_t *book, size_t book_len, const uint8_t *amounts, size_t amounts_len, uint32_t *flow,
+                                 size_t flow_len);
+
+/* placer_find_order: find an order, to be agreed, stored and run later.
+ *   book               read
+ *   order, order_len   written where the call accepts: an order file of 7 bytes and two a pair; later bytes are kept. Shorter is 17.
+ *                      PLACER_ORDER_MAX bytes are always enough.
+ *   accepted           values: the length of the file. Hand over this length, not the buffer's, when the order is checked or run.
+ *   refused            the book's numbers, 17, 13 */
+placer_reply placer_find_order(const uint8_t *book, size_t book_len, uint8_t *order, size_t order_len);
+
+/* placer_run_order: check an order and run it.
+ *   book, order, amounts   read
+ *   flow, flow_len         as for placer_find_and_run
+ *   accepted               values: units, cost, the sums over the flow written
+ *   refused                the book's numbers, the order's, the amounts', 17 */
+placer_reply placer_run_order(const uint8_t *book, size_t book_len, const uint8_t *order, size_t order_len, const uint8_t *amounts,
+                              size_t amounts_len, uint32_t *flow, size_t flow_len);
+
+/* placer_check_order: whether an order is good for this book, whatever the amounts.
+ *   book, order   read
+ *   accepted      values: the count of pairs. Each eligible pair stands in the order once, and for all lots i, k and calls j, l where
+ *                 (i, j) precedes (i, l) and (k, j): (k, l) is eligible and cost(i, j) + cost(k, l) <= cost(i, l) + cost(k, j).
+ *   refused       the book's numbers, the order's; of several failures 11 and 12, the first by place of (i, j), then k, then l */
+placer_reply placer_check_order(const uint8_t *book, size_t book_len, const uint8_t *order, size_t order_len);
+
+/* placer_read_book: whether a book is readable.
+ *   book       read
+ *   accepted   values: n, m
+ *   refused    the book's numbers */
+placer_reply placer_read_book(const uint8_t *book, size_t book_len);
+
+/* placer_read_amounts: whether amounts are readable and fit their book.
+ *   book, amounts   read
+ *   accepted        values: n, m
+ *   refused         the book's numbers, the amounts' */
+placer_reply placer_read_amounts(const uint8_t *book, size_t book_len, const uint8_t *amounts, size_t amounts_len);
+
+/* placer_lot_costs: where a lot's costs stand in the book, 32 bits each, in the sequence of the lot's eligible calls.
+ *   book      read; nothing is copied
+ *   lot       any number
+ *   returns   the stretch; 0, 0 where it is empty: the book is refused, the lot is n or more, or no call is eligible for it */
+placer_stretch placer_lot_costs(const uint8_t *book, size_t book_len, size_t lot);
+
+/* placer_sentence: a refusal in English; of another number, "not a number of this library". The text is constant. */
+static inline const char *placer_sentence(uint32_t number)
+{
+    static const char *const sentences[] = {
+        "accepted",
+        "a file is under 7 bytes",
+        "a file does not open with its mark",
+        "a file's version is not 1",
+        "the book's count of lots or calls is 0 or above 32",
+        "an eligibility bit is set for a call that the book does not have",
+        "a file ends before its last field",
+        "a cost is above 1,000,000",
+        "a file has bytes after its last field",
+        "a pair of the order is not in the book or not eligible",
+        "a pair stands twice in the order",
+        "the order is not good: the opposite pair of two lots and two calls is not eligible",
+        "the order is not good: two lots and two calls cost less the other way round",
+        "no order exists for this book",
+        "an eligible pair is missing from the order",
+        "the amounts' counts differ from the book's",
+        "an amount is above 1,000,000,000",
+        "the buffer is too short"};
+    return number < sizeof sentences / sizeof sentences[0] ? sentences[number] : "not a number of this library";
+}
+
+#ifdef __cplusplus
+}
+#endif
+
+#endif

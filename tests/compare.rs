@@ -1,0 +1,109 @@
+//! Compares the C library with an independent reference, and tries demand 3 by brute force. The seed is fixed, so every run is the same.
+//! Parts run at the same time in several threads, as the library allows. The last line is `tests: N cases, D differences`; the exit
+//! status is 0 only if D is 0, each number came, and each wrong reference was noticed.
+mod demand3;
+mod files;
+mod library;
+mod placing;
+mod program;
+mod reference;
+mod samples;
+mod sections;
+#[path = "../bindings/rust/src/sys.rs"]
+mod sys;
+
+use library::Comparison;
+use reference::{Wrong, WRONG};
+use std::path::Path;
+use std::sync::atomic::{AtomicUsize, Ordering};
+use std::sync::Mutex;
+use std::time::Instant;
+
+type Work<'a> = Box<dyn Fn(&mut Comparison) + Sync + 'a>;
+
+/// What a part came to.
+struct Outcome {
+    cases: u64,
+    differences: u64,
+    numbers: [u64; 18],
+    seconds: f64,
+}
+
+fn outcome(wrong: Wrong, work: &Work) -> Outcome {
+    let (start, mut c) = (Instant::now(), Comparison::new(wrong));
+    work(&mut c);
+    Outcome { cases: c.cases, differences: c.differences, numbers: c.numbers, seconds: start.elapsed().as_secs_f64() }
+}
+
+/// Runs all parts, two or more at a time; the outcomes in the sequence of the parts.
+fn run_all(parts: &[(Wrong, Work)]) -> Vec<Outcome> {
+    let workers = std::thread::available_parallelism().map_or(2, |n| n.get().clamp(2, 8));
+    let (next, outcomes) = (AtomicUsize::new(0), Mutex::new(Vec::new()));
+    std::thread::scope(|scope| {
+        for _ in 0..workers {
+            scope.spawn(|| loop {
+                let k = next.fetch_add(1, Ordering::Relaxed);
+                let Some((wrong, work)) = parts.get(k) else { break };
+                let done = outcome(*wrong, work);
+                outcomes.lock().unwrap().push((k, done));
+            });
+        }
+    });
+    let mut outcomes = outcomes.into_inner().unwrap();
+    outcomes.sort_by_key(|&(k, _)| k);
+    outcomes.into_iter().map(|(_, done)| done).collect()
+}
+
+/// The cases in which a wrong reference is to be noticed: it stops once it is.
+fn notice(c: &mut Comparison) {
+    let parts: [fn(&mut Comparison); 4] = [
+        sections::limits,
+        |c| sections::random_books(c, 200, 6, 2),
+        |c| sections::damage(c, &samples::stored_books()[..4]),
+        sections::small_books,
+    ];
+    let _ = parts.iter().any(|part| {
+        part(c);
+        c.differences > 0
+    });
+}
+
+fn main() {
+    let path = std::env::args().nth(1).unwrap_or_default();
+    let mut parts: Vec<(&str, Work)> = vec![
+        ("damaged files", Box::new(|c| sections::damage(c, &samples::stored_books()))),
+        ("books up to 2 by 2", Box::new(sections::small_books)),
+        ("books of 3 by 3", Box::new(sections::three_by_three)),
+        ("random books to 8 by 8", Box::new(|c| sections::random_books(c, 4_000, 8, 6))),
+        ("random books to 16 by 16", Box::new(|c| sections::random_books(c, 2_000, 16, 6))),
+        ("random books to 32 by 32", Box::new(|c| sections::random_books(c, 600, 32, 6))),
+        ("largest books", Box::new(sections::largest_books)),
+        ("limits", Box::new(sections::limits)),
+        ("long orders", Box::new(sections::long_orders)),
+        ("demand 3 by brute force", Box::new(demand3::demand3)),
+    ];
+    match Path::new(&path).is_file() {
+        true => parts.push(("printing program", Box::new(|c| program::program(c, Path::new(&path))))),
+        false => println!("printing program: SKIPPED, it is not built"),
+    }
+    let (names, works): (Vec<&str>, Vec<Work>) = parts.into_iter().unzip();
+    let outcomes = run_all(&works.into_iter().map(|work| (Wrong::Nothing, work)).collect::<Vec<_>>());
+    let (mut cases, mut differences, mut numbers) = (0, 0, [0; 18]);
+    for (name, done) in names.iter().zip(&outcomes) {
+        println!("{name}: {} cases, {} differences, {:.1} s", done.cases, done.differences, done.seconds);
+        cases += done.cases;
+        differences += done.differences;
+        numbers.iter_mut().zip(done.numbers).for_each(|(sum, times)| *sum += times);
+    }
+    println!("accepted {}; refused by 1 to 17: {:?}", numbers[0], &numbers[1..]);
+    let unseen = numbers.iter().filter(|&&times| times == 0).count() as u64;
+
+    let wrong = run_all(&WRONG.iter().map(|&wrong| (wrong, Box::new(notice) as Work)).collect::<Vec<_>>());
+    let missed: Vec<&Wrong> = WRONG.iter().zip(&wrong).filter(|(_, done)| done.differences == 0).map(|(wrong, _)| wrong).collect();
+    println!("wrong references: {} of {} noticed", WRONG.len() - missed.len(), WRONG.len());
+    missed.iter().for_each(|wrong| println!("NOT NOTICED: {wrong:?}"));
+
+    differences += unseen + missed.len() as u64;
+    println!("tests: {cases} cases, {differences} differences");
+    std::process::exit((differences > 0) as i32);
+}

@@ -1,0 +1,25 @@
+//! The three files, written as document 01 lays them out.
+use crate::reference::Pair;
+
+pub fn order_file(pairs: &[Pair]) -> Vec<u8> {
+    let mut file = b"CLO\x01\x00".to_vec();
+    file.extend_from_slice(&(pairs.len() as u16).to_le_bytes());
+    file.extend(pairs.iter().flat_map(|&(i, j)| [i as u8, j as u8]));
+    file
+}
+
+pub fn book_file(costs: &[Vec<Option<u64>>]) -> Vec<u8> {
+    let mut file = vec![b'C', b'L', b'B', 1, 0, costs.len() as u8, costs[0].len() as u8];
+    for row in costs {
+        let bits: u32 = (0..row.len()).filter(|&j| row[j].is_some()).map(|j| 1 << j).sum();
+        file.extend_from_slice(&bits.to_le_bytes());
+        file.extend(row.iter().flatten().flat_map(|&cost| (cost as u32).to_le_bytes()));
+    }
+    file
+}
+
+pub fn amounts_file(lots: usize, calls: usize, amounts: &[u64]) -> Vec<u8> {
+    let mut file = vec![b'C', b'L', b'A', 1, 0, lots as u8, calls as u8];
+    file.extend(amounts.iter().flat_map(|&a| (a as u32).to_le_bytes()));
+    file
+}

@@ -1,0 +1,210 @@
+//! The C library called as C calls it, each reply and each buffer held against the reference. Every slice handed over ends where an
+//! inaccessible page begins, and has a strip of known bytes before it.
+use crate::reference::{Refused, Run, Wrong};
+use crate::sys::{
+    placer_check_order, placer_find_and_run, placer_find_order, placer_lot_costs, placer_read_amounts, placer_read_book, placer_run_order,
+    Reply,
+};
+use std::ffi::c_void;
+
+extern "C" {
+    fn mmap(at: *mut c_void, length: usize, protection: i32, flags: i32, file: i32, offset: i64) -> *mut u8;
+    fn mprotect(at: *mut u8, length: usize, protection: i32) -> i32;
+}
+
+const PAGE: usize = 4096;
+const STRIP: [u8; 32] = [0xa5; 32];
+
+/// Memory that ends at an inaccessible page.
+struct Guarded {
+    end: *mut u8,
+}
+
+impl Guarded {
+    fn new(room: usize) -> Guarded {
+        let size = (room + STRIP.len()).div_ceil(PAGE) * PAGE;
+        unsafe {
+            let start = mmap(std::ptr::null_mut(), size + PAGE, 3, 0x22, -1, 0);
+            assert!(start as isize != -1, "no memory");
+            let end = start.add(size);
+            assert!(mprotect(end, PAGE, 0) == 0, "no guard page");
+            Guarded { end }
+        }
+    }
+
+    fn start<T>(&self, items: &[T]) -> *mut T {
+        unsafe { self.end.sub(size_of_val(items)) as *mut T }
+    }
+
+    fn put<T: Copy>(&self, items: &[T]) -> (*mut T, usize) {
+        let start = self.start(items);
+        unsafe {
+            std::ptr::copy_nonoverlapping(STRIP.as_ptr(), (start as *mut u8).sub(STRIP.len()), STRIP.len());
+            std::ptr::copy_nonoverlapping(items.as_ptr(), start, items.len());
+        }
+        (start, items.len())
+    }
+
+    fn holds<T: Copy + PartialEq>(&self, items: &[T]) -> bool {
+        let start = self.start(items);
+        unsafe {
+            std::slice::from_raw_parts((start as *mut u8).sub(STRIP.len()), STRIP.len()) == STRIP
+                && std::slice::from_raw_parts(start, items.len()) == items
+        }
+    }
+}
+
+/// What is lent to a call, and what it holds afterwards. What a call does not take is empty.
+#[derive(Clone, Copy, Default, Debug)]
+struct Lent<'a> {
+    book: &'a [u8],
+    order: &'a [u8],
+    amounts: &'a [u8],
+    flow: &'a [u32],
+}
+
+type Part<T> = (*mut T, usize);
+
+/// The library against the reference, or against a wrong one.
+pub struct Comparison {
+    pub wrong: Wrong,
+    pub cases: u64,
+    pub differences: u64,
+    /// How often each number was expected; 0 is an accepted input.
+    pub numbers: [u64; 18],
+    book: Guarded,
+    order: Guarded,
+    amounts: Guarded,
+    flow: Guarded,
+}
+
+fn reply(answer: Result<(u32, Vec<u64>), Refused>) -> Reply {
+    let (number, verdict, given) = match answer {
+        Ok((verdict, given)) => (0, verdict, given),
+        Err((number, given)) => (number, 0, given),
+    };
+    let mut values = [0; 4];
+    values[..given.len()].copy_from_slice(&given);
+    Reply { number, verdict, values }
+}
+
+impl Comparison {
+    pub fn new(wrong: Wrong) -> Comparison {
+        let room = |bytes| Guarded::new(bytes);
+        let (book, order, amounts, flow) = (room(20_000), room(140_000), room(8_000), room(8_000));
+        Comparison { wrong, cases: 0, differences: 0, numbers: [0; 18], book, order, amounts, flow }
+    }
+
+    pub fn count(&mut self, same: bool, what: impl Fn() -> String) {
+        self.cases += 1;
+        if !same {
+            self.differences += 1;
+            if self.wrong == Wrong::Nothing && self.differences <= 5 {
+                eprintln!("difference: {}", what());
+            }
+        }
+    }
+
+    fn compare(
+        &mut self,
+        name: &str,
+        lent: Lent,
+        expected: Reply,
+        after: Lent,
+        call: impl Fn(Part<u8>, Part<u8>, Part<u8>, Part<u32>) -> Reply,
+    ) {
+        let parts = (self.book.put(lent.book), self.order.put(lent.order), self.amounts.put(lent.amounts), self.flow.put(lent.flow));
+        let got = call(parts.0, parts.1, parts.2, parts.3);
+        self.numbers[expected.number as usize] += 1;
+        let same = got == expected
+            && self.book.holds(after.book)
+            && self.order.holds(after.order)
+            && self.amounts.holds(after.amounts)
+            && self.flow.holds(after.flow);
+        self.count(same, || format!("{name}\n  lent {lent:?}\n  got {got:?}\n  expected {expected:?} and {after:?}"));
+    }
+
+    pub fn read_book(&mut self, book: &[u8]) {
+        let expected = reply(self.wrong.read_book(book).map(|b| (0, vec![b.lots as u64, b.calls as u64])));
+        let lent = Lent { book, ..Lent::default() };
+        self.compare("read_book", lent, expected, lent, |b, _, _, _| unsafe { placer_read_book(b.0, b.1) });
+    }
+
+    pub fn lot_costs(&mut self, book: &[u8], lot: usize) {
+        let (start, len) = self.wrong.lot_costs(book, lot);
+        let lent = Lent { book, ..Lent::default() };
+        let expected = reply(Ok((0, vec![start as u64, len as u64])));
+        self.compare("lot_costs", lent, expected, lent, |b, _, _, _| {
+            let got = unsafe { placer_lot_costs(b.0, b.1, lot) };
+            reply(Ok((0, vec![got.start as u64, got.len as u64])))
+        });
+    }
+
+    pub fn read_amounts(&mut self, book: &[u8], amounts: &[u8]) {
+        let expected = reply(self.wrong.read_amounts(book, amounts).map(|(b, _)| (0, vec![b.lots as u64, b.calls as u64])));
+        let lent = Lent { book, amounts, ..Lent::default() };
+        self.compare("read_amounts", lent, expected, lent, |b, _, a, _| unsafe { placer_read_amounts(b.0, b.1, a.0, a.1) });
+    }
+
+    pub fn check_order(&mut self, book: &[u8], order: &[u8]) {
+        let expected = reply(self.wrong.check_order(book, order).map(|pairs| (0, vec![pairs.len() as u64])));
+        let lent = Lent { book, order, ..Lent::default() };
+        self.compare("check_order", lent, expected, lent, |b, o, _, _| unsafe { placer_check_order(b.0, b.1, o.0, o.1) });
+    }
+
+    pub fn find_order(&mut self, book: &[u8], order: &[u8]) {
+        let (expected, after) = match self.wrong.find_order(book, order) {
+            Ok((length, after)) => (Ok((0, vec![length as u64])), after),
+            Err(refused) => (Err(refused), order.to_vec()),
+        };
+        let lent = Lent { book, order, ..Lent::default() };
+        let after = Lent { order: &after, ..lent };
+        self.compare("find_order", lent, reply(expected), after, |b, o, _, _| unsafe { placer_find_order(b.0, b.1, o.0, o.1) });
+    }
+
+    fn compare_run(
+        &mut self,
+        name: &str,
+        lent: Lent,
+        run: Result<Run, Refused>,
+        call: impl Fn(Part<u8>, Part<u8>, Part<u8>, Part<u32>) -> Reply,
+    ) {
+        let (expected, after) = match run {
+            Ok(run) => (Ok((if run.full { 1 } else { 2 }, vec![run.units, run.cost])), run.flow),
+            Err(refused) => (Err(refused), lent.flow.to_vec()),
+        };
+        self.compare(name, lent, reply(expected), Lent { flow: &after, ..lent }, call);
+    }
+
+    pub fn run_order(&mut self, book: &[u8], order: &[u8], amounts: &[u8], flow: &[u32]) {
+        let run = self.wrong.run_order(book, order, amounts, flow);
+        self.compare_run("run_order", Lent { book, order, amounts, flow }, run, |b, o, a, f| unsafe {
+            placer_run_order(b.0, b.1, o.0, o.1, a.0, a.1, f.0, f.1)
+        });
+    }
+
+    pub fn find_and_run(&mut self, book: &[u8], amounts: &[u8], flow: &[u32]) {
+        let run = self.wrong.find_and_run(book, amounts, flow);
+        self.compare_run("find_and_run", Lent { book, amounts, flow, ..Lent::default() }, run, |b, _, a, f| unsafe {
+            placer_find_and_run(b.0, b.1, a.0, a.1, f.0, f.1)
+        });
+    }
+}
+
+/// The library's own answers, for the checks that do not compare: an order's file, whether an order passes, and a run.
+pub fn found(book: &[u8]) -> Option<Vec<u8>> {
+    let mut order = vec![0; 2055];
+    let got = unsafe { placer_find_order(book.as_ptr(), book.len(), order.as_mut_ptr(), order.len()) };
+    order.truncate(got.values[0] as usize);
+    (got.number == 0).then_some(order)
+}
+
+pub fn passes(book: &[u8], order: &[u8]) -> bool {
+    unsafe { placer_check_order(book.as_ptr(), book.len(), order.as_ptr(), order.len()).number == 0 }
+}
+
+pub fn run(book: &[u8], order: &[u8], amounts: &[u8]) -> Reply {
+    let mut flow = [0; 1024];
+    let (b, o, a) = (book.as_ptr(), order.as_ptr(), amounts.as_ptr());
+    unsafe { placer_run_order(b, book.len(), o, order.len(), a, amounts.len(), flow.as_mut_ptr(), flow.len()) }
+}

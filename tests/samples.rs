@@ -1,0 +1,206 @@
+//! Books, orders and amounts to try, from a fixed seed.
+use crate::files::book_file;
+use crate::reference::Pair;
+
+pub type Costs = Vec<Vec<Option<u64>>>;
+
+pub struct Random(pub u64);
+
+impl Random {
+    pub fn next(&mut self) -> u64 {
+        self.0 = self.0.wrapping_add(0x9e37_79b9_7f4a_7c15);
+        let mut x = self.0;
+        x = (x ^ (x >> 30)).wrapping_mul(0xbf58_476d_1ce4_e5b9);
+        x = (x ^ (x >> 27)).wrapping_mul(0x94d0_49bb_1331_11eb);
+        x ^ (x >> 31)
+    }
+
+    pub fn below(&mut self, bound: u64) -> u64 {
+        self.next() % bound
+    }
+
+    pub fn pick<T: Copy>(&mut self, items: &[T]) -> T {
+        items[self.below(items.len() as u64) as usize]
+    }
+
+    pub fn chance(&mut self, percent: u64) -> bool {
+        self.below(100) < percent
+    }
+
+    pub fn numbers(&mut self, count: usize, bound: u64) -> Vec<u64> {
+        (0..count).map(|_| self.below(bound)).collect()
+    }
+
+    pub fn shuffle<T>(&mut self, items: &mut [T]) {
+        for k in (1..items.len()).rev() {
+            items.swap(k, self.below(k as u64 + 1) as usize);
+        }
+    }
+
+    /// Earlier contents of a buffer.
+    pub fn bytes(&mut self, count: usize) -> Vec<u8> {
+        (0..count).map(|_| self.next() as u8).collect()
+    }
+
+    pub fn entries(&mut self, count: usize) -> Vec<u32> {
+        (0..count).map(|_| self.next() as u32).collect()
+    }
+}
+
+#[derive(Clone, Copy, Debug)]
+pub enum Kind {
+    Dense,
+    Sparse,
+    Monge,
+    Permuted,
+    SumWithGaps,
+    Staircase,
+    AtLimits,
+    NearlyNothing,
+}
+
+pub const KINDS: [Kind; 8] =
+    [Kind::Dense, Kind::Sparse, Kind::Monge, Kind::Permuted, Kind::SumWithGaps, Kind::Staircase, Kind::AtLimits, Kind::NearlyNothing];
+
+/// Costs a_i + b_j - w i j, raised so that none is negative: lot by lot and call by call they are a Monge array.
+fn monge(random: &mut Random, lots: usize, calls: usize) -> Costs {
+    let (a, b, w) = (random.numbers(lots, 50), random.numbers(calls, 50), random.below(4));
+    let top = w * (lots * calls) as u64;
+    (0..lots).map(|i| (0..calls).map(|j| Some(top + a[i] + b[j] - w * (i * j) as u64)).collect()).collect()
+}
+
+fn permuted(random: &mut Random, mut costs: Costs) -> Costs {
+    let mut columns: Vec<usize> = (0..costs[0].len()).collect();
+    random.shuffle(&mut columns);
+    random.shuffle(&mut costs);
+    costs.iter().map(|row| columns.iter().map(|&j| row[j]).collect()).collect()
+}
+
+pub fn costs(random: &mut Random, kind: Kind, lots: usize, calls: usize) -> Costs {
+    let mut each = |cell: &mut dyn FnMut(&mut Random) -> Option<u64>| -> Costs {
+        (0..lots).map(|_| (0..calls).map(|_| cell(random)).collect()).collect()
+    };
+    match kind {
+        Kind::Dense => each(&mut |r| Some(r.below(10))),
+        Kind::Sparse => each(&mut |r| r.chance(30).then(|| r.below(4))),
+        Kind::AtLimits => each(&mut |r| r.chance(90).then(|| r.pick(&[0, 1, 999_999, 1_000_000]))),
+        Kind::NearlyNothing => each(&mut |r| r.chance(3).then(|| r.below(3))),
+        Kind::Monge => monge(random, lots, calls),
+        Kind::Permuted => {
+            let costs = monge(random, lots, calls);
+            permuted(random, costs)
+        }
+        Kind::SumWithGaps => {
+            let (a, b) = (random.numbers(lots, 20), random.numbers(calls, 20));
+            let percent = random.pick(&[80, 95]);
+            (0..lots).map(|i| (0..calls).map(|j| random.chance(percent).then_some(a[i] + b[j])).collect()).collect()
+        }
+        Kind::Staircase => {
+            let mut costs = monge(random, lots, calls);
+            let mut reach = random.numbers(lots, calls as u64 + 1);
+            reach.sort();
+            for (row, &reach) in costs.iter_mut().zip(&reach) {
+                row[reach as usize..].fill(None);
+            }
+            permuted(random, costs)
+        }
+    }
+}
+
+/// Amounts for a book: few units, at the limits, or those of some allocation, so that all can be met; a unit more at times.
+pub fn amounts(random: &mut Random, costs: &Costs) -> Vec<u64> {
+    let (lots, calls) = (costs.len(), costs[0].len());
+    match random.below(4) {
+        0 => random.numbers(lots + calls, 4),
+        1 => (0..lots + calls).map(|_| random.pick(&[0, 1, 999_999_999, 1_000_000_000])).collect(),
+        kind => {
+            let mut amounts = vec![0; lots + calls];
+            for (i, row) in costs.iter().enumerate() {
+                for j in (0..calls).filter(|&j| row[j].is_some()) {
+                    let units = random.pick(&[0, 0, 1, 7, 1_000_000]);
+                    amounts[i] += units;
+                    amounts[lots + j] += units;
+                }
+            }
+            if kind == 3 {
+                let at = random.below((lots + calls) as u64) as usize;
+                amounts[at] += 1;
+            }
+            amounts
+        }
+    }
+}
+
+pub fn pairs(costs: &Costs) -> Vec<Pair> {
+    let each = (0..costs.len()).flat_map(|i| (0..costs[0].len()).map(move |j| (i, j)));
+    each.filter(|&(i, j)| costs[i][j].is_some()).collect()
+}
+
+/// All lists of so many items, each from `choices`.
+pub fn all<T: Copy>(choices: &[T], count: usize) -> Vec<Vec<T>> {
+    (0..count).fold(vec![Vec::new()], |lists, _| {
+        lists.iter().flat_map(|list| choices.iter().map(move |&c| list.iter().copied().chain([c]).collect())).collect()
+    })
+}
+
+/// All books of a size with cells from `choices`.
+pub fn all_books(lots: usize, calls: usize, choices: &[Option<u64>]) -> Vec<Costs> {
+    all(choices, lots * calls).iter().map(|cells| cells.chunks(calls).map(<[_]>::to_vec).collect()).collect()
+}
+
+pub fn permutations(items: &[Pair]) -> Vec<Vec<Pair>> {
+    if items.is_empty() {
+        return vec![Vec::new()];
+    }
+    let mut lists = Vec::new();
+    for k in 0..items.len() {
+        let mut rest = items.to_vec();
+        let first = rest.remove(k);
+        lists.extend(permutations(&rest).into_iter().map(|list| [vec![first], list].concat()));
+    }
+    lists
+}
+
+/// A file changed at one byte, each byte in turn, and the file cut and lengthened.
+pub fn damaged(file: &[u8]) -> Vec<Vec<u8>> {
+    let mut files = Vec::new();
+    for at in 0..file.len() {
+        files.push(file[..at].to_vec());
+        let other = [0, 1, 2, 3, 32, 33, 255, file[at].wrapping_add(1), file[at].wrapping_sub(1)];
+        for byte in other.into_iter().chain((0..8).map(|bit| file[at] ^ (1 << bit))) {
+            let mut changed = file.to_vec();
+            changed[at] = byte;
+            files.push(changed);
+        }
+    }
+    files.extend((1..9).map(|more| [file, &vec![more as u8 - 1; more]].concat()));
+    files.extend(damaged_twice(file));
+    files
+}
+
+/// A short file with a byte changed, and then cut at each byte or lengthened by one: which of two refusals comes first.
+fn damaged_twice(file: &[u8]) -> impl Iterator<Item = Vec<u8>> + use<'_> {
+    let longer = [file, &[0]].concat();
+    let changes = if file.len() < 64 { 0..file.len() } else { 0..0 };
+    changes.flat_map(move |at| {
+        let mut changed = longer.clone();
+        changed[at] = 255;
+        (0..=longer.len()).map(move |length| changed[..length].to_vec())
+    })
+}
+
+/// Books for the damage: small ones, one with every bit of a word, and one with gaps.
+pub fn stored_books() -> Vec<Vec<u8>> {
+    let some = |rows: &[&[i64]]| book_file(&rows.iter().map(|row| row.iter().map(|&c| u64::try_from(c).ok()).collect()).collect::<Costs>());
+    vec![
+        some(&[&[1, 2], &[3, 5]]),
+        some(&[&[1, 2], &[3, 4]]),
+        some(&[&[0, 0], &[0, -1]]),
+        some(&[&[-1, 0, 0], &[0, -1, 0], &[0, 0, -1]]),
+        some(&[&[-1]]),
+        some(&[&[1_000_000]]),
+        some(&[&[3, -1, 7, 256], &[-1, -1, -1, -1], &[-1, 9, -1, 65_536]]),
+        book_file(&vec![(0..32).map(Some).collect(); 1]),
+        book_file(&vec![vec![Some(5)]; 32]),
+    ]
+}

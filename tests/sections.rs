@@ -1,0 +1,214 @@
+//! What is tried, in sections. Each calls the library by a `Comparison`.
+use crate::files::{amounts_file, book_file, order_file};
+use crate::library::Comparison;
+use crate::reference::{Pair, Wrong};
+use crate::samples::{all, all_books, amounts, costs, damaged, pairs, permutations, Costs, Kind, Random, KINDS};
+
+const FAR: [usize; 6] = [32, 255, 256, 1 << 32, (1 << 32) + 1, usize::MAX];
+
+/// An order of the book, or of its pairs as they stand where there is none.
+fn some_order(costs: &Costs) -> Vec<Pair> {
+    Wrong::Nothing.read_book(&book_file(costs)).ok().and_then(|book| Wrong::Nothing.find(&book)).unwrap_or_else(|| pairs(costs))
+}
+
+/// Reading, the stretch of each lot, and the finder with buffers of each length about the limit.
+fn read_and_find(c: &mut Comparison, random: &mut Random, book: &[u8], lengths: impl Iterator<Item = usize>) {
+    c.read_book(book);
+    let lots = book.get(5).map_or(0, |&lots| lots as usize % 34);
+    (0..lots + 2).chain(FAR).for_each(|lot| c.lot_costs(book, lot));
+    lengths.for_each(|length| c.find_order(book, &random.bytes(length)));
+}
+
+/// Every book up to 2 by 2 with few costs: every order, buffers of every length, every small amount.
+pub fn small_books(c: &mut Comparison) {
+    let random = &mut Random(1);
+    for (lots, calls) in [(1, 1), (1, 2), (2, 1), (2, 2)] {
+        for costs in all_books(lots, calls, &[None, Some(0), Some(1), Some(2)]) {
+            let book = book_file(&costs);
+            let own = pairs(&costs);
+            read_and_find(c, random, &book, 0..7 + 2 * own.len() + 4);
+            for order in permutations(&own) {
+                c.check_order(&book, &order_file(&order));
+                for at in 0..order.len() {
+                    let (mut cut, mut doubled) = (order.clone(), order.clone());
+                    cut.remove(at);
+                    doubled.insert(random.below(order.len() as u64 + 1) as usize, order[at]);
+                    c.check_order(&book, &order_file(&cut));
+                    c.check_order(&book, &order_file(&doubled));
+                }
+            }
+            let order = order_file(&some_order(&costs));
+            for amounts in all(&[0, 1, 2], lots + calls) {
+                let amounts = amounts_file(lots, calls, &amounts);
+                let flow = random.entries(lots * calls + 1);
+                c.find_and_run(&book, &amounts, &flow);
+                c.run_order(&book, &order, &amounts, &flow);
+            }
+        }
+    }
+}
+
+/// Every book of 3 by 3 with cells none, 0 and 1: the finder, and the check of what it should find.
+pub fn three_by_three(c: &mut Comparison) {
+    for costs in all_books(3, 3, &[None, Some(0), Some(1)]) {
+        let book = book_file(&costs);
+        c.find_order(&book, &[7; 26]);
+        c.check_order(&book, &order_file(&some_order(&costs)));
+    }
+}
+
+/// An order changed in one of the ways that are refused or not: parts exchanged, cut, doubled, pairs outside, counts that are wrong.
+fn changed(random: &mut Random, order: &[Pair], lots: usize, calls: usize) -> Vec<u8> {
+    let mut order = order.to_vec();
+    let count = order.len();
+    let (at, other) = (random.below(count.max(1) as u64) as usize, random.below(count as u64 + 1) as usize);
+    let outside = random.pick(&[(0, calls), (lots, 0), (0, 32), (31, 255), (255, 255), (lots - 1, calls + 1)]);
+    match random.below(7) {
+        0 => random.shuffle(&mut order),
+        1 => order.reverse(),
+        2 if count > 1 => order.swap(at, (at + 1) % count),
+        3 if count > 0 => drop(order.remove(at)),
+        4 if count > 0 => order.insert(other, order[at]),
+        5 => order.insert(at, outside),
+        _ => {
+            let mut file = order_file(&order);
+            file[5] = file[5].wrapping_add(random.pick(&[1, 255, 2]));
+            return file;
+        }
+    }
+    order_file(&order)
+}
+
+/// One random book with orders and amounts.
+fn random_book(c: &mut Comparison, random: &mut Random, kind: Kind, lots: usize, calls: usize, orders: usize) {
+    let costs = costs(random, kind, lots, calls);
+    let book = book_file(&costs);
+    let found = some_order(&costs);
+    let length = 7 + 2 * found.len();
+    let more = random.below(40) as usize;
+    read_and_find(c, random, &book, [length - 1, length, length + more].into_iter());
+    c.check_order(&book, &order_file(&found));
+    for turn in 0..orders {
+        let order = if turn == 0 { order_file(&found) } else { changed(random, &found, lots, calls) };
+        let amounts = amounts_file(lots, calls, &amounts(random, &costs));
+        let entries = lots * calls + random.pick(&[0, 0, 1, 40]) - random.chance(5) as usize;
+        let flow = random.entries(entries);
+        c.check_order(&book, &order);
+        c.read_amounts(&book, &amounts);
+        c.run_order(&book, &order, &amounts, &flow);
+        if turn < 2 {
+            c.find_and_run(&book, &amounts, &flow);
+        }
+    }
+}
+
+pub fn random_books(c: &mut Comparison, count: usize, most: u64, orders: usize) {
+    let random = &mut Random(2 + most);
+    for _ in 0..count {
+        let (lots, calls, kind) = (1 + random.below(most) as usize, 1 + random.below(most) as usize, random.pick(&KINDS));
+        random_book(c, random, kind, lots, calls, orders);
+    }
+}
+
+/// Books with 32 lots or calls, of each kind.
+pub fn largest_books(c: &mut Comparison) {
+    let random = &mut Random(40);
+    for (lots, calls) in [(32, 32), (32, 31), (31, 32), (32, 2), (2, 32)] {
+        KINDS.iter().for_each(|&kind| random_book(c, random, kind, lots, calls, 4));
+    }
+}
+
+/// Files with a byte changed, cut and lengthened at each byte, alone and beside good ones.
+pub fn damage(c: &mut Comparison, books: &[Vec<u8>]) {
+    let random = &mut Random(3);
+    for book in books {
+        let (lots, calls) = (book[5] as usize, book[6] as usize);
+        let costs = Wrong::Nothing.read_book(book).unwrap_or_else(|_| unreachable!()).costs;
+        let order = order_file(&some_order(&costs));
+        let amounts = amounts_file(lots, calls, &random.numbers(lots + calls, 5));
+        let flow = random.entries(lots * calls + 2);
+        for book in damaged(book) {
+            read_and_find(c, random, &book, [7 + 2 * lots * calls].into_iter());
+            c.check_order(&book, &order);
+            c.read_amounts(&book, &amounts);
+            c.run_order(&book, &order, &amounts, &flow);
+            c.find_and_run(&book, &amounts, &flow);
+        }
+        for order in damaged(&order) {
+            c.check_order(book, &order);
+            c.run_order(book, &order, &amounts, &flow);
+            c.run_order(book, &order, &amounts[..3], &flow[..1]);
+        }
+        for amounts in damaged(&amounts) {
+            c.read_amounts(book, &amounts);
+            c.run_order(book, &order, &amounts, &flow);
+            c.find_and_run(book, &amounts, &flow);
+            c.find_and_run(book, &amounts, &flow[..lots * calls - 1]);
+        }
+        for length in 0..lots * calls + 2 {
+            c.run_order(book, &order, &amounts, &flow[..length]);
+            c.find_and_run(book, &amounts, &flow[..length]);
+        }
+    }
+}
+
+/// Costs and amounts at their limits in each place, and the largest book.
+pub fn limits(c: &mut Comparison) {
+    let random = &mut Random(4);
+    for (lots, calls) in [(1, 1), (2, 3), (1, 32), (32, 1)] {
+        let zeros = vec![vec![Some(0); calls]; lots];
+        let order = order_file(&pairs(&zeros));
+        for cost in [999_999, 1_000_000, 1_000_001, 1 << 31, (1 << 32) - 1] {
+            for &(i, j) in &pairs(&zeros) {
+                let mut costs = zeros.clone();
+                costs[i][j] = Some(cost);
+                c.read_book(&book_file(&costs));
+                c.check_order(&book_file(&costs), &order);
+            }
+        }
+        for amount in [999_999_999, 1_000_000_000, 1_000_000_001, 1 << 31, (1 << 32) - 1] {
+            for at in 0..lots + calls {
+                let mut amounts = random.numbers(lots + calls, 3);
+                amounts[at] = amount;
+                let amounts = amounts_file(lots, calls, &amounts);
+                c.read_amounts(&book_file(&zeros), &amounts);
+                c.run_order(&book_file(&zeros), &order, &amounts, &random.entries(lots * calls));
+            }
+        }
+    }
+    let most = vec![vec![Some(1_000_000); 32]; 32];
+    let book = book_file(&most);
+    let order = order_file(&pairs(&most));
+    let amounts = amounts_file(32, 32, &[1_000_000_000; 64]);
+    for length in [1022, 1023, 1024, 1025, 1500] {
+        c.run_order(&book, &order, &amounts, &random.entries(length));
+        c.find_and_run(&book, &amounts, &random.entries(length));
+    }
+    read_and_find(c, random, &book, 2053..2058);
+    for more in [1, 2, 1000, 4300] {
+        c.read_book(&[&book[..], &vec![0; more]].concat());
+        c.read_amounts(&book, &[&amounts[..], &vec![0; more]].concat());
+    }
+}
+
+/// Order files of many pairs: repeated, outside after a whole order, and absent.
+pub fn long_orders(c: &mut Comparison) {
+    let random = &mut Random(5);
+    for (lots, calls) in [(1, 1), (2, 2), (5, 4), (32, 32)] {
+        let costs = vec![vec![Some(0); calls]; lots];
+        let (book, own) = (book_file(&costs), pairs(&costs));
+        for count in [255, 256, 300, 1023, 1024, 1025, 4096, 32_768, 65_535] {
+            let repeated: Vec<Pair> = own.iter().cycle().take(count).copied().collect();
+            let mut outside = repeated.clone();
+            outside[own.len().min(count)..].fill((255, 255));
+            let anything: Vec<Pair> = (0..count).map(|_| random.pick(&own)).collect();
+            for pairs in [repeated, outside, anything] {
+                let file = order_file(&pairs);
+                c.check_order(&book, &file);
+                c.check_order(&book, &file[..file.len() - 1]);
+                c.check_order(&book, &file[..7 + 2 * own.len().min(count)]);
+                c.check_order(&book, &[&file[..], &[0]].concat());
+            }
+        }
+    }
+}
