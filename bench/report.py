@@ -1,0 +1,140 @@
+"""Writes docs/BENCHMARKS.md and docs/benchmarks.svg from the figures of bench: report.py FOLDER DOCS.
+
+FOLDER holds times.txt, as `bench time` prints it, and the dumps of `bench count` under callgrind, if that was run.
+"""
+
+import math
+import os
+import re
+import subprocess
+import sys
+from pathlib import Path
+
+FAMILIES = {
+    "natural": "Monge costs in natural order, all pairs eligible",
+    "permuted": "Monge costs, lots and calls shuffled",
+    "few levels": "Monge costs of a few levels, shuffled",
+    "all equal": "all costs equal",
+    "band": "a staircase: Monge costs, only pairs near the diagonal eligible",
+    "sparse": "a tree of eligible pairs, any costs, shuffled",
+}
+CALLS = ["read_book", "check_order", "run_order", "find_order", "find_and_run", "LEMON", "CLP", "GLPK"]
+SIZES = [8, 16, 24, 32]
+LINES = {"run_order": "#0072b2", "find_and_run": "#009e73", "LEMON": "#d55e00", "CLP": "#cc79a7", "GLPK": "#777777"}
+
+HEAD = """# Benchmarks
+
+Written by `bench/run` from one run of it; run it again to renew this page. Not a part of the gate.
+
+- Each figure is the median over 21 interleaved rounds in one process (CLP and GLPK: 3), a round being one pass over 64 different books
+  of the family (CLP and GLPK: 8), so that no branch is learnt by heart. Microseconds of processor time a call.
+- Our calls start from the bytes of the files and end with the flow; `run_order` checks the order each time. The solvers are handed
+  lists of pairs in memory, build their problem and solve it. LEMON is its network simplex with 64-bit numbers.
+- Lots and calls are equal in number. The amounts are such that some allocation meets everything, so that every solver has an answer.
+- Machine: one core of a {cores}-core {machine} Linux server that others were using; {compiler} -O3, for any x86-64. Differences
+  under 15 % mean nothing.
+- {compared:,} answers (units and cost) were compared with LEMON's; {differing} differ.
+"""
+
+
+def quantity(number):
+    """Return a figure with two or three digits that mean something."""
+    return f"{number:,.0f}" if number >= 20 else f"{number:.1f}" if number >= 1 else f"{number:.2f}"
+
+
+def table(head, rows):
+    """Return a Markdown table."""
+    lines = [head, ["---"] * len(head), *rows]
+    return "".join("| " + " | ".join(map(str, line)) + " |\n" for line in lines)
+
+
+def read_times(path):
+    """Return the medians by family, size and call, and the counts of answers compared and differing."""
+    lines = [line.split("\t") for line in path.read_text().splitlines()]
+    times = {(line[1], int(line[2]), line[3]): float(line[4]) for line in lines if line[0] == "time"}
+    return times, [int(number) for number in next(line for line in lines if line[0] == "answers")[1:]]
+
+
+def read_counts(folder):
+    """Return the instructions a call, by family and call, of the callgrind dumps (8 books each)."""
+    counts = {}
+    for path in folder.glob("callgrind.out.*"):
+        text = path.read_text()
+        label = re.search(r"^desc: Trigger: Client Request: (.*)\t(.*)$", text, re.M)
+        total = re.search(r"^(?:totals|summary): (\d+)", text, re.M)
+        if label and total:
+            counts[label.groups()] = int(total[1]) / 8
+    return counts
+
+
+def page(times, answers, counts):
+    """Return the text of docs/BENCHMARKS.md."""
+    compiler = subprocess.run(["g++", "-dumpfullversion"], capture_output=True, text=True, check=True).stdout.strip()
+    machine = {"cores": os.cpu_count(), "machine": os.uname().machine, "compiler": f"g++ {compiler}"}
+    text = HEAD.format(**machine, compared=answers[0], differing=answers[1])
+    text += "\nThe families:\n\n" + "".join(f"- *{name}*: {what}.\n" for name, what in FAMILIES.items())
+    text += "\n## 32 lots and 32 calls, microseconds\n\n"
+    text += table(["", *CALLS], [[name, *(quantity(times[name, 32, call]) for call in CALLS)] for name in FAMILIES])
+    text += "\n![Microseconds a call by size, for each family](benchmarks.svg)\n"
+    for call, title in (("run_order", "Placing by an order that is kept"), ("find_and_run", "Finding an order and placing, in one call")):
+        text += f"\n## {title}: how many times faster than LEMON\n\n"
+        ratio = {(name, size): times[name, size, "LEMON"] / times[name, size, call] for name in FAMILIES for size in SIZES}
+        text += table([f"`{call}`", *SIZES], [[name, *(quantity(ratio[name, size]) for size in SIZES)] for name in FAMILIES])
+        text += f"\nBelow 1 LEMON is faster: in {sum(value < 1 for value in ratio.values())} of these {len(ratio)} cases.\n"
+    for solver in ("CLP", "GLPK"):
+        ratios = [times[name, 32, solver] / times[name, 32, "find_and_run"] for name in FAMILIES]
+        text += f"\nAt 32 `find_and_run` takes {quantity(min(ratios))} to {quantity(max(ratios))} times less than {solver}.\n"
+    if counts:
+        text += "\n## Instructions a call at 32, thousands\n\n"
+        text += "By callgrind, over 8 books of each family; these do not depend on the machine's load.\n\n"
+        text += table(["", *CALLS], [[name, *(quantity(counts[name, call] / 1000) for call in CALLS)] for name in FAMILIES])
+    return text
+
+
+def panel(name, times, low, high):
+    """Return the SVG of one family: a line for each call over the sizes, microseconds on a logarithmic scale."""
+    width, height = 210, 170
+    place = {size: width * position / (len(SIZES) - 1) for position, size in enumerate(SIZES)}
+
+    def level(value):
+        return height * (high - math.log10(value)) / (high - low)
+
+    parts = [f'<text x="{width / 2}" y="-8" text-anchor="middle" font-weight="bold">{name}</text>']
+    for power in range(low, high + 1):
+        y = level(10.0**power)
+        parts.append(f'<path d="M0 {y:.1f}H{width}" stroke="#ddd"/><text x="-6" y="{y + 4:.1f}" text-anchor="end">{10.0**power:,g}</text>')
+    parts += [f'<text x="{x:.0f}" y="{height + 16}" text-anchor="middle">{size}</text>' for size, x in place.items()]
+    for call, colour in LINES.items():
+        points = " ".join(f"{place[size]:.0f},{level(times[name, size, call]):.1f}" for size in SIZES)
+        parts.append(f'<polyline points="{points}" fill="none" stroke="{colour}" stroke-width="2"/>')
+    return "".join(parts)
+
+
+def plot(times):
+    """Return the text of docs/benchmarks.svg: a panel for each family."""
+    shown = [value for (_, _, call), value in times.items() if call in LINES]
+    low, high = math.floor(math.log10(min(shown))), math.ceil(math.log10(max(shown)))
+    parts = ['<svg xmlns="http://www.w3.org/2000/svg" viewBox="0 0 840 510" font-family="sans-serif" font-size="11">',
+             '<rect width="840" height="510" fill="white"/>',
+             '<text x="10" y="22" font-size="13">Microseconds a call, by lots and calls (8 to 32 of each)</text>']
+    for position, (call, colour) in enumerate(LINES.items()):
+        x = 370 + 97 * position
+        parts.append(f'<path d="M{x} 18h18" stroke="{colour}" stroke-width="3"/><text x="{x + 22}" y="22">{call}</text>')
+    for position, name in enumerate(FAMILIES):
+        x, y = 55 + 270 * (position % 3), 65 + 230 * (position // 3)
+        parts.append(f'<g transform="translate({x} {y})">{panel(name, times, low, high)}</g>')
+    return "\n".join(parts) + "\n</svg>\n"
+
+
+def main():
+    """Write both files, and print the page."""
+    folder, docs = map(Path, sys.argv[1:3])
+    times, answers = read_times(folder / "times.txt")
+    text = page(times, answers, read_counts(folder))
+    (docs / "BENCHMARKS.md").write_text(text)
+    (docs / "benchmarks.svg").write_text(plot(times))
+    print(text)
+
+
+if __name__ == "__main__":
+    main()
