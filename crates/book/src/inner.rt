@@ -7,8 +7,21 @@ ghost use Prim.Native.Nat.{_+_, _<_, _≤_};
 ghost use lib.ListN.{length};
 ghost use Rattle.specification.specs.Bytes.{u32At};
 ghost use Rattle.specification.specs.Book.{bookLots};
-ghost use Rattle.book.specs.Pairs.{readable, offsetTable};
+ghost use Rattle.book.specs.Pairs.{readable, rowStart, offsetTable};
 ghost use Rattle.book.specs.Table.{entry, admitsBy, CanRead, WithRow};
+
+// The byte at which a lot's row starts in a readable book.
+pub fn row_at(book: &[u8], lot: Lot) -> usize
+    requires { ⌜ (readable (now book) ≡ true) × (lot .0 < bookLots (now book)) ⌝ }
+    ensures { λ r. ⌜ r ≡ rowStart (now (book .entry)) (lot .0) ⌝ }
+{
+    let i = lot.0;
+    let mut at = 7;
+    for k in 0..i {
+        at += super::row::size(&book[at..]);
+    }
+    at
+}
 
 // Enters the places of one lot's costs, of which the first stands at `at`.
 fn enter_row(table: &mut [u16; 1024], word: u32, lot: Lot, at: usize)

@@ -9,12 +9,10 @@ use specification::Counts;
 use specification::Lot;
 use specification::Refusal;
 ghost use mathlib.Core.Path.{_≡_};
-ghost use mathlib.Core.Bool.{true};
-ghost use Prim.Native.Nat.{_<_};
 ghost use Rattle.specification.specs.Reply.{statedCounts};
-ghost use Rattle.specification.specs.Book.{readRows, countOutside, readBook, bookLots, lotCosts};
+ghost use Rattle.specification.specs.Book.{readRows, countOutside, readBook, lotCosts};
 ghost use Rattle.files.specs.Files.{statedStep};
-ghost use Rattle.book.specs.Pairs.{statedCost, readable, rowStart, pairCost};
+ghost use Rattle.book.specs.Pairs.{statedCost, pairCost};
 
 // What a book says of a lot and a call: the pair's cost, that the pair is not eligible, or that the lot or the call is not in the book.
 pub enum Cost {
@@ -73,19 +71,6 @@ pub fn read_book(book: &[u8]) -> Counts
     }
 }
 
-// The byte at which a lot's row starts in a readable book.
-fn row_at(book: &[u8], lot: Lot) -> usize
-    requires { ⌜ (readable (now book) ≡ true) × (lot .0 < bookLots (now book)) ⌝ }
-    ensures { λ r. ⌜ r ≡ rowStart (now (book .entry)) (lot .0) ⌝ }
-{
-    let i = lot.0;
-    let mut at = 7;
-    for k in 0..i {
-        at += row::size(&book[at..]);
-    }
-    at
-}
-
 // The stretch of the book that holds a lot's costs; empty for a refused book and for a lot outside it.
 pub fn lot_costs(book: &[u8], lot: Lot) -> &[u8]
     ensures { λ r. ⌜ now r ≡ lotCosts (now (book .entry)) (lot .0) ⌝ }
@@ -98,7 +83,7 @@ pub fn lot_costs(book: &[u8], lot: Lot) -> &[u8]
     if lots <= i {
         return &book[..0];
     }
-    let at = row_at(book, lot);
+    let at = inner::row_at(book, lot);
     let start = at + 4;
     let end = at + row::size(&book[at..]);
     &book[start..end]
@@ -120,7 +105,7 @@ pub fn pair_cost(book: &[u8], lot: Lot, call: Call) -> Cost
     if calls <= j {
         return Cost::Outside;
     }
-    let at = row_at(book, lot);
+    let at = inner::row_at(book, lot);
     let row = &book[at..];
     if word::is_set(files::u32_at(row, 0), j) {
         Cost::Of(row::cost_in(row, j))

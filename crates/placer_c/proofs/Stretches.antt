@@ -4,7 +4,6 @@ use mathlib.Core.Path.{_≡_, refl, sym}
 use mathlib.Core.Bool.{Bool, true, false}
 use mathlib.Core.List.{List, [], _∷_}
 use Prim.Native.Nat.{ℕ, _+_, _*_, _≤_, _<_}
-use native.Mathlib.Nat.{add-zero}
 use native.Mathlib.Omega.{arith}
 use borrow.Author.Tests.{ltb-true}
 use lib.Count.{ones}
@@ -12,10 +11,8 @@ use lib.Dec.{ltb}
 use lib.ListN.{length, take, drop, length-take, length-drop}
 use lib.Seq.{drop-drop}
 use Rattle.specification.specs.Reply.{Reply, gives, refuses, Size}
-use Rattle.specification.specs.Bytes.{u32At}
 use Rattle.specification.specs.Book.{rowWord, rowSize, bookLots, readBook, rowAt, lotCosts}
-use Rattle.specification.proofs.Numbers.{u32-drop}
-use Rattle.book.specs.Pairs.{rowStart}
+use Rattle.book.specs.Pairs.{readable, rowStart}
 use Rattle.book.proofs.Readable.{counts-are}
 use Rattle.book.proofs.Rows.{row-is, row-inside}
 
@@ -23,13 +20,11 @@ pub empty : (l : List ℕ) → length l ≡ 0 → l ≡ []
 empty [] e = refl
 empty (x ∷ l) e = absurd (omega arith)
 
--- the number at the start of a row is the row's word
-pub word-at : (book : List ℕ) (i : ℕ) {at : ℕ} → at ≡ rowStart book i → u32At book at ≡ rowWord (rowAt book i)
-word-at book i e = rw (row-is, u32-drop, e, add-zero)
-
 -- the costs of a lot of a readable book
 pub record Standing (book : List ℕ) (lot : ℕ) : Type 0 where
-  pub inside : (i : ℕ) → i ≤ lot → rowStart book i + rowSize (rowAt book i) ≤ length book
+  pub is-readable : readable book ≡ true
+  pub lot-in : lot < bookLots book
+  pub inside : rowStart book lot + rowSize (rowAt book lot) ≤ length book
   pub stretch : take (length (lotCosts book lot)) (drop (rowStart book lot + 4) book) ≡ lotCosts book lot
 
 module _ (book : List ℕ) (lot : ℕ) where
@@ -49,7 +44,9 @@ module _ (book : List ℕ) (lot : ℕ) where
       let costs : lotCosts book lot ≡ take count (drop (rowStart book lot + 4) book) = rw (e, inner) (in-book count) in
       let long : length (lotCosts book lot) ≡ count = rw (costs, length-take, length-drop) (omega (arith, rows lot below)) in
       record {
-        inside = λ i h. rows i (omega arith);
+        is-readable = read .is-readable;
+        lot-in = below;
+        inside = rows lot below;
         stretch = rw long (sym costs);
       }
 

@@ -46,12 +46,8 @@ pub extern "C" fn placer_lot_costs(book: &[u8], lot: usize) -> Stretch
     if len == 0 {
         return Stretch { start: 0, len: 0 };
     }
-    let mut at = 7;
-    for i in 0..lot {
-        at += 4 + 4 * u32::count_ones(files::u32_at(book, at)) as usize;
-    }
     Stretch {
-        start: at + 4,
+        start: book::inner::row_at(book, Lot(lot)) + 4,
         len: len,
     }
 }

@@ -1,4 +1,4 @@
--- `book::row_at` meets its contract. The invariant: `at` is where the row of lot k starts. No sum wraps, since each row stands in the file.
+-- `book::inner::row_at` meets its contract. The invariant: `at` is where the row of lot k starts. No sum wraps, since each row stands in the file.
 use borrow.Author.Needs.{needs}
 use mathlib.Core.Path.{_≡_, refl}
 use Prim.Native.Nat.{_+_, _-_, _≤_}
@@ -9,8 +9,8 @@ use Rattle.specification.specs.Book.{rowSize, rowAt}
 use Rattle.book.specs.Pairs.{rowStart}
 use Rattle.book.proofs.Readable.{readable-is}
 use Rattle.book.proofs.Rows.{part-is-row, start-next, row-inside}
-use Rattle.book.proofs.row_at.Statement.{statement}
-use Rattle.book.proofs.row_at.Tie as tie
+use Rattle.book.proofs.inner.row_at.Statement.{statement}
+use Rattle.book.proofs.inner.row_at.Tie as tie
 
 abbrev Inv-loop : tie.InvT-loop
 Inv-loop book i at₀ k₀ at k = (k ≤ i) × (at ≡ rowStart book k)
