@@ -1,4 +1,4 @@
-// The amounts file for a book that was read: told its n and m.
+// One amount of an amounts file, and the file for a book that was read: told its n and m.
 use files::Step;
 use specification::Counts;
 use specification::Refusal;
@@ -10,13 +10,26 @@ ghost use Rattle.transport.specs.Finder.{every};
 ghost use Rattle.specification.specs.Reply.{statedCounts};
 ghost use Rattle.specification.specs.Amounts.{amountLimit, amountAt, readAmountsOf};
 
+// The amount that the file holds at a number: the lots' amounts come first, then the calls'. Bytes past the end count as 0.
+pub fn amount_at(amounts: &[u8], k: usize) -> u32
+    ensures { λ r. ⌜ r ≡ amountAt (now (amounts .entry)) k ⌝ }
+{
+    if amounts.len() < 7 {
+        return 0;
+    }
+    if (amounts.len() - 7) / 4 < k {
+        return 0;
+    }
+    files::u32_at(amounts, 7 + 4 * k)
+}
+
 // Whether none of the first so many amounts is above the limit.
 fn all_within(amounts: &[u8], count: usize) -> bool
     requires { ⌜ count ≤ 64 ⌝ }
     ensures { λ r. ⌜ r ≡ every count (λ k. leb (amountAt (now (amounts .entry)) k) amountLimit) ⌝ }
 {
     for k in 0..count {
-        if 1_000_000_000 < files::u32_at(amounts, 7 + 4 * k) {
+        if 1_000_000_000 < amount_at(amounts, k) {
             return false;
         }
     }
@@ -59,7 +72,7 @@ pub fn amounts_from(amounts: &[u8], first: usize, count: usize) -> [u64; 32]
     let mut out = [0u64; 32];
     let mut k: usize = 0;
     while k < count {
-        out[k] = files::u32_at(amounts, 7 + 4 * (first + k)) as u64;
+        out[k] = amount_at(amounts, first + k) as u64;
         k += 1;
     }
     out

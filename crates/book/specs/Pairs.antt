@@ -27,11 +27,12 @@ pairCost book i j = readBook book >>= λ size. gives (
     (cond (problemOf book .admits i j) (costs (problemOf book .cost i j)) notEligible)
     outside)
 
--- none of the refusals listed for a book applies
+-- the reply is no refusal
 abbrev pub given : {A : Type 0} → Reply A → Bool
 given (gives a) = true
 given (refuses k vs) = false
 
+-- none of the refusals listed for a book applies
 abbrev pub readable : List ℕ → Bool
 readable book = given (readBook book)
 

@@ -108,7 +108,7 @@ pub fn pair_cost(book: &[u8], lot: Lot, call: Call) -> Cost
     let at = inner::row_at(book, lot);
     let row = &book[at..];
     if word::is_set(files::u32_at(row, 0), j) {
-        Cost::Of(row::cost_in(row, j))
+        Cost::Of(row::cost_in(row, call))
     } else {
         Cost::NotEligible
     }

@@ -16,11 +16,12 @@ pub fn size(row: &[u8]) -> usize
     4 + 4 * super::word::count(files::u32_at(row, 0))
 }
 
-// The cost of call j: the costs of the lower set bits stand between the word and it.
-pub fn cost_in(row: &[u8], j: usize) -> u32
-    ensures { λ r. ⌜ r ≡ rowCost (now (row .entry)) j ⌝ }
+// The cost of a call: the costs of the lower set bits stand between the word and it.
+pub fn cost_in(row: &[u8], call: Call) -> u32
+    ensures { λ r. ⌜ r ≡ rowCost (now (row .entry)) (call .0) ⌝ }
 {
     let word = files::u32_at(row, 0);
+    let j = call.0;
     files::u32_at(row, 4 + 4 * super::word::count_below(word, j))
 }
 

@@ -1,12 +1,12 @@
 // Reads F13 and F14 of document 01 and damaged books and amounts, and writes what each reading answers: one line a case, with the name of
-// the example or the number of the open point that it tells apart.
+// the example or the label of docs/TRAPS.md.
 use book::Cost;
 use specification::Call;
 use specification::Counts;
 use specification::Lot;
 use specification::Refusal;
 
-// An example's name is its number and a thousand; an open point's is its number.
+// An example's name is its number and a thousand; a label's is its number.
 const F13: u64 = 1013;
 
 const F14: u64 = 1014;
@@ -156,7 +156,7 @@ fn amount(point: u64, k: usize) {
     let file = file_of(&files::AMOUNTS_MARK, 1, 1, 1000000000, 1000000000, 0);
     name(point);
     io::write_all(1, b" AMOUNT");
-    number(amounts::amount_at(first(&file, 15), k) as usize);
+    number(amounts::inner::amount_at(first(&file, 15), k) as usize);
     io::write_all(1, b"\n");
 }
 

@@ -74,7 +74,7 @@ fn call_failure(
     named(test_quadruple(book, offsets, i, j, k, l), i, j, k, l)
 }
 
-// The quadruples with lot k, by call rising; all at once where (k, j) does not stand later.
+// The quadruples with lot k, by call rising; where (k, j) does not stand later none is tested.
 fn lot_failure(
     book: &[u8],
     offsets: &[u16; 1024],

@@ -49,7 +49,8 @@ fn lower(
     earlier || new <= low
 }
 
-// The turn of the pair (i, j), which stands at a place: it is put in play, and the answer is whether it is free against what is in play.
+// The turn of the pair (i, j), which stands at a place: its gaps are entered, and the answer is whether it is free against the pairs that
+// stand later.
 fn enter(
     book: &[u8],
     offsets: &[u16; 1024],
@@ -78,7 +79,7 @@ fn enter(
 }
 
 // The lowest place of an order whose pair is not free against those at or after it, and the count where there is none: from the last pair
-// to the first, each is put in play and tested.
+// to the first, the gaps of each are entered and it is tested.
 pub fn walk(
     book: &[u8],
     offsets: &[u16; 1024],

@@ -45,15 +45,6 @@ book-reads book amounts size read = by-book (readBook book) refl
         e ∙ ap gives (book-read book n e .sizes ∙ sym (amounts-read book amounts size read .0 .sizes))
     by-book (refuses k vs) e = absurd (not-both {k = k} {vs = vs} read (rw e refl))
 
--- 13: the amounts are read and the flow is long enough, and there is no order
-pub none-refused : (book amounts flow : List ℕ) (size : Size) → readAmounts book amounts ≡ gives size
-    → size .lots * size .calls ≤ length flow → find (problemOf book) ≡ none
-    → (refuses 13 [] ≡ findAndRun book amounts flow) × (flow ≡ findAndRunFlow book amounts flow)
-unfolding foundToRun findAndRun findAndRunFlow problemOf
-none-refused book amounts flow size read h f =
-    let long = le-ltb _ _ (rw (amounts-read book amounts size read .0 .sizes) at h) in
-    simp (read, long) (rw (f, orderOr13) (refl, refl))
-
 -- the first bytes of the array are the file of the finder's order, which has `count` pairs
 pub record IsFile (book after : List ℕ) (count : ℕ) : Type 0 where
   pub order : List Pair

@@ -1,5 +1,5 @@
 // The printed text of document 01, "The printing program". Each function appends one piece to a text that stands at the front of a lent
-// buffer, at its length or at 0, and replies the length then.
+// buffer, and replies how long the text then is.
 use specification::Call;
 use specification::Lot;
 use specification::Placed;

@@ -1,5 +1,6 @@
-// Finds orders of known examples and of books on which a finder goes wrong easily, one line a case. After the label: the length, mark, version
-// and count of the file that was written with its first seven pairs, or the refusal; then how many bytes after it kept their contents.
+// Finds orders of known examples and of books on which a finder goes wrong easily, one line a case. After the label (docs/TRAPS.md): the
+// length, mark, version and count of the file that was written with its first seven pairs, or the refusal; then how many bytes after it
+// kept their contents.
 use specification::Found;
 ghost use mathlib.Core.Path.{_≡_};
 ghost use Prim.Native.Nat.{_<_, _≤_};

@@ -49,7 +49,7 @@ use Rattle.specification.proofs.Finds.{
   written,
   find-in-table,
 }
-use Rattle.specification.proofs.FindRuns.{find-run-in-table, find-and-run-says, find-and-run-is-run}
+use Rattle.specification.proofs.FindRuns.{find-run-in-table, find-and-run-says, find-and-run-is-run, find-and-run-refused-13}
 use Rattle.specification.proofs.Texts.{printed-ends}
 
 -- Demand 1. A reply is answered if its refusals have numbers of the table, and leave the buffer as it was.
@@ -101,6 +101,7 @@ demand2 = record {
   find-and-run = λ book buffer n e amounts flow.
       let w = written book buffer n e in
       rw (w .file) (find-and-run-is-run book amounts flow (w .order) (w .gave .found));
+  find-and-run-13 = find-and-run-refused-13;
 }
 
 -- Demand 3

@@ -2,9 +2,11 @@
 use mathlib.Core.Path.{_≡_, refl, sym, _∙_, ap}
 use mathlib.Core.Bool.{Bool, true, false}
 use mathlib.Core.List.{List, []}
-use mathlib.Core.Option.{some, none}
+use mathlib.Core.Option.{Option, some, none}
 use Prim.Native.Nat.{ℕ, _*_, _≤_, _<_}
-use lib.Dec.{ltb→lt, nltb→le}
+use native.Mathlib.Omega.{arith}
+use borrow.Author.Tests.{le-ltb}
+use lib.Dec.{ltb, ltb→lt, nltb→le}
 use lib.ListN.{length}
 use Rattle.transport.specs.Greedy.{Pair}
 use Rattle.transport.specs.Finder.{find}
@@ -15,10 +17,11 @@ use Rattle.specification.specs.Amounts.{readAmounts}
 use Rattle.specification.specs.OrderFile.{orderCount, orderPairs, orderFile}
 use Rattle.specification.specs.Check.{checkOrder}
 use Rattle.specification.specs.Run.{greedyOn, outcome, flowTooShort, runOrder, runFlow}
-use Rattle.specification.specs.Find.{orderOr13, foundToRun, findAndRun, findAndRunFlow}
+use Rattle.specification.specs.Find.{orderLength, orderOr13, foundOrder, findOrder, foundToRun, findAndRun, findAndRunFlow}
 use Rattle.specification.specs.Demands.{InTable, Readable}
-use Rattle.specification.proofs.Replies.{Says, giving, gives-less, says-known, says-then, says-unless, says-afterwards}
-use Rattle.specification.proofs.AmountsFiles.{AmountsOrBookRefused, amounts-say}
+use Rattle.specification.proofs.Replies.{Says, giving, not-both, gives-less, says-known, says-then, says-unless, says-afterwards}
+use Rattle.specification.proofs.AmountsFiles.{AmountsOrBookRefused, amounts-say, amounts-read}
+use Rattle.specification.proofs.Books.{book-reads}
 use Rattle.specification.proofs.Lines.{amounts-in-table}
 use Rattle.specification.proofs.Checks.{check-passes}
 use Rattle.specification.proofs.OrderFiles.{order-back}
@@ -100,3 +103,33 @@ pub find-and-run-is-run : (book amounts flow : List ℕ) (S : List Pair) → fin
     × (findAndRunFlow book amounts flow ≡ runFlow book (orderFile S) amounts flow)
 find-and-run-is-run book amounts flow S found = find-and-run-as book (orderFile S) amounts flow (found ∙ ap some (sym (order-back S)))
     (λ readable. check-passes book (orderFile S) (found-passes book S readable found))
+
+-- 13: the amounts are read and the flow is long enough, and there is no order
+pub none-refused : (book amounts flow : List ℕ) (size : Size) → readAmounts book amounts ≡ gives size
+    → size .lots * size .calls ≤ length flow → find (problemOf book) ≡ none
+    → (refuses 13 [] ≡ findAndRun book amounts flow) × (flow ≡ findAndRunFlow book amounts flow)
+unfolding foundToRun findAndRun findAndRunFlow problemOf
+none-refused book amounts flow size read h f =
+    let long = le-ltb _ _ (rw (amounts-read book amounts size read .0 .sizes) at h) in
+    simp (read, long) (rw (f, orderOr13) (refl, refl))
+
+-- where the finder replies 13 to a readable book, there is none
+no-order-of-13 : (book buffer : List ℕ) (n : Size) → readBook book ≡ gives n → findOrder book buffer ≡ refuses 13 []
+    → find (problemOf book) ≡ none
+unfolding foundOrder findOrder
+no-order-of-13 book buffer n reads e = by-length (ltb (length buffer) (orderLength book)) refl (find (problemOf book)) refl
+  where
+    by-length : (short : Bool) → ltb (length buffer) (orderLength book) ≡ short → (o : Option (List Pair)) → find (problemOf book) ≡ o
+        → find (problemOf book) ≡ none
+    by-length true s o f =
+        let q : refuses 17 [] ≡ refuses 13 [] = rw (reads, s) at e in
+        let z : _≡_ {A = ℕ} 17 13 = cc in
+        absurd (omega arith)
+    by-length false s none f = f
+    by-length false s (some S) f = absurd (not-both refl (rw (reads, s, f, orderOr13) at e))
+
+pub find-and-run-refused-13 : (book buffer : List ℕ) → findOrder book buffer ≡ refuses 13 [] → (amounts flow : List ℕ) (n : Size)
+    → readAmounts book amounts ≡ gives n → n .lots * n .calls ≤ length flow → findAndRun book amounts flow ≡ refuses 13 []
+find-and-run-refused-13 book buffer e amounts flow n read long =
+    let reads = book-reads book n (amounts-read book amounts n read .0) in
+    sym (none-refused book amounts flow n read long (no-order-of-13 book buffer n reads e) .0)

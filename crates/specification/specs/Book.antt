@@ -76,7 +76,8 @@ unfoldable pub rowAt : List ℕ → ℕ → List ℕ
 rowAt book zero = drop 7 book
 rowAt book (suc i) = drop (rowSize (rowAt book i)) (rowAt book i)
 
--- the book's transportation problem: n lots, m calls, (i, j) eligible where both are in the book and lot i's word has bit j, its cost
+-- the book's transportation problem: n lots, m calls, (i, j) eligible where both are in the book and lot i's word has bit j, its cost;
+-- of a pair that is not eligible the cost means nothing
 unfoldable pub problemOf : List ℕ → Problem
 problemOf book = record {
   lots = bookLots book;

@@ -128,6 +128,9 @@ pub record Demand2 : Type 0 where
   pub find-and-run : (book buffer : List ℕ) (n : ℕ) → findOrder book buffer ≡ gives n → (amounts flow : List ℕ)
       → (findAndRun book amounts flow ≡ runOrder book (take n (findBuffer book buffer)) amounts flow)
       × (findAndRunFlow book amounts flow ≡ runFlow book (take n (findBuffer book buffer)) amounts flow)
+  -- and where no order exists it is refused by 13, "13 last" (document 01)
+  pub find-and-run-13 : (book buffer : List ℕ) → findOrder book buffer ≡ refuses 13 [] → (amounts flow : List ℕ) (n : Size)
+      → readAmounts book amounts ≡ gives n → n .lots * n .calls ≤ length flow → findAndRun book amounts flow ≡ refuses 13 []
 
 -- "An order of the eligible pairs is good if, for all amounts of equal total within the limits, GREEDY by it meets everything whenever
 -- some allocation does, and every other allocation that meets everything costs at least as much" (`Good`, in transport)

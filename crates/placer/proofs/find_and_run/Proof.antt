@@ -16,7 +16,8 @@ use Rattle.specification.proofs.Books.{size-within}
 use Rattle.book.proofs.Readable.{Read, counts-are}
 use Rattle.finder.proofs.Books.{states-same, stated}
 use Rattle.run.proofs.Supplied.{sizes-within, too-short, accepted, as-specified}
-use Rattle.placer.proofs.Found.{book-reads, none-refused, IsFile, none-found, file-found, file-passes, count-within, runs-file}
+use Rattle.specification.proofs.FindRuns.{none-refused}
+use Rattle.placer.proofs.Found.{book-reads, IsFile, none-found, file-found, file-passes, count-within, runs-file}
 use Rattle.placer.proofs.find_and_run.Statement.{statement}
 use Rattle.placer.proofs.find_and_run.Tie as tie
 

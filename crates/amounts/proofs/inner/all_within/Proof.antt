@@ -31,12 +31,12 @@ loop-holds : tie.Need-loop-holds Inv-loop μ-loop
 loop-holds c = (omega arith, λ m h. absurd (omega arith))
 
 returns : tie.Need-returns Inv-loop μ-loop
-returns c = sym (one-high _ _ _ (c .before .before .loop-test .taken) (rw (c .before .u32-at .ensures) at (c .if1 .taken)))
+returns c = sym (one-high _ _ _ (c .before .before .loop-test .taken) (rw (c .before .amount-at .ensures) at (c .if1 .taken)))
 
 loop-again : tie.Need-loop-again Inv-loop μ-loop
 loop-again c =
     let l = c .before .before .before in
-    let low = rw (c .before .u32-at .ensures) at (c .if1 .left) in (
+    let low = rw (c .before .amount-at .ensures) at (c .if1 .left) in (
       omega arith,
       λ m h. ⊎-elim (λ (g : l .loop .k ≤ m). let e : m ≡ l .loop .k = omega arith in rw e low) (l .loop .inv .1 m) (le-or-lt (l .loop .k) m),
     )
@@ -51,8 +51,6 @@ all-within-spec =
     Inv-loop
     μ-loop
     loop-holds
-    (λ c. omega arith)
-    (λ c. omega arith)
     (λ c κs. tt)
     returns
     (λ c. omega arith)

@@ -36,7 +36,7 @@ loop-again c =
       omega arith,
       simp length-set (l .inv .1),
       shows-more (l .out) (λ i. amountAt (start .args .amounts .now) (start .args .first + i)) (l .k) _ (omega arith) (l .inv .2)
-          (c .u32-at .ensures),
+          (c .amount-at .ensures),
     )
 
 returns : tie.Need-returns Inv-loop μ-loop
@@ -49,8 +49,6 @@ amounts-from-spec =
     Inv-loop
     μ-loop
     loop-holds
-    (λ c. search needs)
-    (λ c. search needs)
     (λ c. search needs)
     (λ c κs. search needs)
     (λ c. search needs)

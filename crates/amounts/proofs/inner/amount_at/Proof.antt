@@ -1,10 +1,10 @@
--- `amounts::amount_at` meets its contract: past the end the number is 0.
+-- `amounts::inner::amount_at` meets its contract: past the end the number is 0.
 use borrow.Author.Needs.{needs}
 use mathlib.Core.Path.{sym}
 use native.Mathlib.Omega.{arith}
 use Rattle.specification.proofs.Numbers.{u32-past}
-use Rattle.amounts.proofs.amount_at.Statement.{statement}
-use Rattle.amounts.proofs.amount_at.Tie as tie
+use Rattle.amounts.proofs.inner.amount_at.Statement.{statement}
+use Rattle.amounts.proofs.inner.amount_at.Tie as tie
 
 returns : tie.Need-returns
 returns c = sym (u32-past (c .before .before .args .amounts .now) _ (omega arith))
