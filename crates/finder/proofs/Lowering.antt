@@ -178,6 +178,17 @@ module _ (P : Problem) (rest : ℕ → ℕ → Bool) (i : ℕ) where
   pub lowered-start : (p up : ℕ) (tails : List ℕ) → Begun P rest i p up tails → Lowered P rest i p up tails tails
   lowered-start p up tails b = record { begun = b; apart = apart-refl i tails }
 
+  -- the calls from q to p do not remain
+  pub begun-down : (p q up : ℕ) (tails : List ℕ) → q ≤ p → ((l : ℕ) → q ≤ l → l < p → T (rest i l) → ⊥) → Begun P rest i p up tails
+      → Begun P rest i q up tails
+  begun-down p q up tails h none b = record {
+    stop = b .stop;
+    between = λ l a lt hl t. by-cases (decLt l p) (λ o. none l a o t) (λ o. b .between l (omega arith) lt hl t);
+    stand = b .stand;
+    before = omega (arith, b .before);
+    within = b .within;
+  }
+
   pub lowered-more : (p up start up′ : ℕ) (a b c : List ℕ) → Lowered P rest i start up a b → Lowered P rest i p up′ b c → Lowered P rest i p up′ a c
   lowered-more p up start up′ a b c r q = record { begun = q .begun; apart = apart-more i a b c (r .apart) (q .apart) }
 

@@ -8,7 +8,7 @@ use native.Mathlib.Decide.{ℕ-discrete, decLt}
 use native.Mathlib.Omega.{arith}
 use borrow.Author.Tests.{eqb-true, eqb-false, ne-eqb}
 use lib.Dec.{T, eqb, ltb, ltb→lt, lt→ltb, T-not, not-T, eqb→eq}
-use lib.ListN.{length, getD, set, length-set}
+use lib.ListN.{set, length-set}
 use lib.Seq.{getD-set-same, getD-set-other}
 use Rattle.transport.specs.Problem.{Problem}
 use Rattle.transport.proofs.Laws.Tests.{T-ext, and-says, and-of}
@@ -21,7 +21,7 @@ use Rattle.finder.specs.Work.{Filled}
 use Rattle.finder.proofs.Tables.{positive, T-of, F-of}
 use Rattle.finder.proofs.Turns.{below-of}
 use Rattle.finder.specs.Rows.{headroom, gapBy, Stop, Tails, Apart, Begun, Lowered}
-use Rattle.finder.specs.Waiting.{Passed, Hindered, Lowest, Waits, Settled, Settles, Tried, Looked, RowsOf, AllRows, Seen, Kept, Unsettled}
+use Rattle.finder.specs.Waiting.{Passed, Hindered, Lowest, Waits, Tried, RowsOf, AllRows}
 use Rattle.finder.proofs.Lowering.{head-le, tail-none, tail-all}
 
 module _ (P : Problem) (rest : ℕ → ℕ → Bool) (calls-few : P .calls ≤ 32) (lots-few : P .lots ≤ 32) where
@@ -133,35 +133,6 @@ module _ (P : Problem) (bounded : Bounded P limit) (rest : ℕ → ℕ → Bool)
     free-iff-least P limit bounded rest eligible i j (t .remains) .0 (t .unhindered) k (r .lot-in, t .remains .1, r .remains),
   )
 
-  -- a lot is settled, or its calls are looked through
-  pub seen-settled : (i : ℕ) (waits settled : List ℕ) → i < P .lots → getD settled i 0 ≡ 1 → Waits P rest waits → Settles P rest waits settled
-      → Seen P rest i (P .calls) waits settled
-  seen-settled i waits settled hi e w h = record {
-    call = record {
-      none-before = λ l hl t. hindered-not i l (entry waits l i) (h .each i hi e l hl (t .remains .2)) t;
-      is-one = λ q. absurd (omega arith);
-      within = omega arith;
-    };
-    waits-hold = w;
-    settles = h;
-  }
-
-  pub seen-looked : P .calls ≤ 32 → P .lots ≤ 32 → (i r v : ℕ) (waits waits′ settled : List ℕ) → i < P .lots → (v ≡ 1 → r ≡ P .calls)
-      → Settles P rest waits settled → Looked P rest i r waits waits′ → Seen P rest i r waits′ (set settled i v)
-  seen-looked calls-few lots-few i r v waits waits′ settled hi f h q = record {
-    call = q .call;
-    waits-hold = q .waits;
-    settles = record {
-      each = λ a ha e. by-cases (ℕ-discrete a i)
-          (λ z. subst (λ (b : ℕ). Settled P rest waits′ b (P .calls)) (sym z)
-          (subst (Settled P rest waits′ i) (f (sym (getD-set-same settled i v 0 (omega (arith, h .long)))
-          ∙ subst (λ (b : ℕ). getD (set settled i v) b 0 ≡ 1) z e)) (q .settled)))
-          (λ d l hl t. subst⁻¹ (Hindered P rest a l) (q .others a l (omega arith) d)
-          (h .each a ha (sym (getD-set-other settled i a v 0 d) ∙ e) l hl t));
-      long = simp length-set (h .long);
-    };
-  }
-
   passed-free : (i j : ℕ) → Remains P rest i j → Passed P rest i j 0 (P .lots) → Takeable P rest i j
   passed-free i j ij h = record {
     remains = ij;
@@ -216,50 +187,3 @@ module _ (P : Problem) (bounded : Bounded P limit) (rest : ℕ → ℕ → Bool)
 
         all : Passed P rest i j 0 r
         all k z hk t = by-cases (decLt k w) (λ l. h .passed i j hi hj on k z (omega arith) t) (λ l. q .passed k (omega arith) hk t)
-
-module _ (P : Problem) (rest : ℕ → ℕ → Bool) (i : ℕ) (lot-in : i < 32) where
-  -- one call more that is hindered or does not remain
-  pub settled-more : (j : ℕ) (waits waits′ : List ℕ) (r : Bool) → j < P .calls → r ≡ false → Settled P rest waits i j
-      → Tried P rest i j r waits waits′ → Settled P rest waits′ i (j + 1)
-  settled-more j waits waits′ r hj e h q l hl t = by-cases (ℕ-discrete l j)
-      (λ z. subst (λ (a : ℕ). Hindered P rest i a (entry waits′ a i)) (sym z) (q .no e (subst (λ (a : ℕ). T (rest i a)) z t)))
-      (λ d. subst⁻¹ (Hindered P rest i l) (q .others i l (omega arith) (λ z. d (z .1))) (h l (below-of l j (omega arith) d) t))
-
-  -- the calls passed stay hindered where a call is tried
-  pub settled-stay : (j : ℕ) (waits waits′ : List ℕ) (r : Bool) → j ≤ P .calls → Settled P rest waits i j
-      → Tried P rest i j r waits waits′ → Settled P rest waits′ i j
-  settled-stay j waits waits′ r hj h q l hl t =
-      subst⁻¹ (Hindered P rest i l) (q .others i l (omega arith) (λ z. omega (arith, z .1))) (h l hl t)
-
-  -- the marks of other lots stay
-  pub others-more : (j : ℕ) (before waits waits′ : List ℕ) (r : Bool) → ((g h : ℕ) → g < 32 → (g ≡ i → ⊥) → entry waits h g ≡ entry before h g)
-      → Tried P rest i j r waits waits′ → (g h : ℕ) → g < 32 → (g ≡ i → ⊥) → entry waits′ h g ≡ entry before h g
-  others-more j before waits waits′ r o q g h hh d = q .others g h hh (λ z. d (z .0)) ∙ o g h hh d
-
--- the marks of lots, one more
-module _ (waits : List ℕ) (i j : ℕ) (before : List ℕ) where
-  pub unsettled-none : Unsettled waits 0 i j before before
-  unsettled-none = record { passed = λ k h. absurd (omega arith); later = λ k h. refl; long = refl }
-
-  pub unsettled-more : (k v : ℕ) (now : List ℕ) → k < length now → Unsettled waits k i j before now
-      → (v ≡ 1 → Kept (getD now k 0) (entry waits j k) i) → Unsettled waits (k + 1) i j before (set now k v)
-  unsettled-more k v now h r f = record {
-    passed = λ a ha e. by-cases (ℕ-discrete a k)
-        (λ z. subst (λ (b : ℕ). Kept (getD before b 0) (entry waits j b) i) (sym z)
-        (subst (λ (mark : ℕ). Kept mark (entry waits j k) i) (r .later k (omega arith))
-        (f (sym (getD-set-same now k v 0 h) ∙ subst (λ (b : ℕ). getD (set now k v) b 0 ≡ 1) z e))))
-        (λ d. r .passed a (below-of a k (omega arith) d) (sym (getD-set-other now k a v 0 d) ∙ e));
-    later = λ a ha. getD-set-other now k a v 0 (λ e. omega arith) ∙ r .later a (omega arith);
-    long = simp length-set (r .long);
-  }
-
-  -- and the lot's own
-  pub unsettled-own : (count : ℕ) (now : List ℕ) → i < count → i < length now → Unsettled waits count i j before now
-      → Unsettled waits count i j before (set now i 0)
-  unsettled-own count now hi h r = record {
-    passed = λ a ha e. by-cases (ℕ-discrete a i)
-        (λ z. absurd (omega (arith, getD-set-same now i 0 0 h, subst (λ (b : ℕ). getD (set now i 0) b 0 ≡ 1) z e)))
-        (λ d. r .passed a ha (sym (getD-set-other now i a 0 0 d) ∙ e));
-    later = λ a ha. getD-set-other now i a 0 0 (λ e. omega arith) ∙ r .later a ha;
-    long = simp length-set (r .long);
-  }

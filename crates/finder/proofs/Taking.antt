@@ -3,7 +3,7 @@
 -- hinders it still, unless it was taken there, or the pair's own lot lost a call.
 use mathlib.Core.Path.{_≡_, sym, _∙_, ap, subst, subst⁻¹}
 use mathlib.Core.Logic.{_⊎_, inl, inr, ⊎-elim, by-cases}
-use mathlib.Core.Bool.{Bool, cond, _&&_}
+use mathlib.Core.Bool.{Bool, true, false, cond, _&&_, true≢false}
 use mathlib.Core.List.{List}
 use Prim.Native.Nat.{ℕ, suc, _+_, _*_, _/_, _%_, _≤_, _<_}
 use native.Mathlib.Decide.{ℕ-discrete}
@@ -15,14 +15,17 @@ use Rattle.transport.specs.Problem.{Problem}
 use Rattle.transport.proofs.Laws.Tests.{T-ext, T-false, and-says}
 use Rattle.transport.proofs.Laws.Searches.{least-same, le-least, least-le, least-le-top}
 use Rattle.transport.proofs.Finder.Gaps.{gap, least-gap-same, leastGap}
+use Rattle.specification.specs.Book.{bit}
 use Rattle.book.specs.Table.{entry}
 use Rattle.finder.specs.Table.{limit}
 use Rattle.finder.specs.Work.{flags, Remaining}
 use Rattle.finder.proofs.Tables.{F-of}
 use Rattle.finder.proofs.Turns.{below-of}
 use Rattle.finder.specs.Rows.{headroom, fromCall, tailGap, Tails, Above, Begun}
-use Rattle.finder.specs.Waiting.{Live, Hindered, Waits, Settled, Settles, RowsOf, Kept, Unsettled, Holding}
+use Rattle.finder.specs.Waiting.{Live, Hindered, Waits, Asks, RowsOf, Asked, Holding}
+use Rattle.finder.specs.Words.{Without, IfEqual, Calls, Lefts}
 use Rattle.finder.proofs.Marks.{tails-stay}
+use Rattle.finder.proofs.Asking.{if-equal-others}
 
 module _ (P : Problem) (calls-few : P .calls ≤ 32) (lots-few : P .lots ≤ 32) (rest : List ℕ) (x : ℕ) (hx : x < length rest) where
   abbrev gone : List ℕ
@@ -103,38 +106,83 @@ module _ (P : Problem) (calls-few : P .calls ≤ 32) (lots-few : P .lots ≤ 32)
     long = h .long;
   }
 
-  settles-then : (waits before after : List ℕ) → Settles P (flags rest) waits before
-      → Unsettled waits (P .lots) (x / 32) (x % 32) before after → getD after (x / 32) 0 ≡ 0 → Settles P (flags gone) waits after
-  settles-then waits before after h r own = record { each = each; long = r .long ∙ h .long }
+  -- the pair's call leaves the word of its lot
+  pub lefts-then : (word : ℕ) (lefts : List ℕ) → x / 32 < 32 → Lefts (flags rest) (P .lots) (P .calls) lefts
+      → Without (getD lefts (x / 32) 0) (x % 32) word → Lefts (flags gone) (P .lots) (P .calls) (set lefts (x / 32) word)
+  lefts-then word lefts hi h w = record {
+    each = λ a ha. by-cases (ℕ-discrete a (x / 32))
+        (λ e. subst⁻¹ (λ (b : ℕ). Calls (flags gone) b (P .calls) (getD (set lefts (x / 32) word) b 0)) e
+        (subst⁻¹ (Calls (flags gone) (x / 32) (P .calls)) (getD-set-same lefts (x / 32) word 0 (omega (arith, h .long)))
+        (own (subst (λ (b : ℕ). b < P .lots) e ha))))
+        (λ d. subst⁻¹ (Calls (flags gone) a (P .calls)) (getD-set-other lefts (x / 32) a word 0 d) (record {
+          holds = λ l hl t. h .each a ha .holds l hl (fewer a l t);
+          within = h .each a ha .within;
+        }));
+    long = simp length-set (h .long);
+  }
     where
-      each : (a : ℕ) → a < P .lots → getD after a 0 ≡ 1 → Settled P (flags gone) waits a (P .calls)
-      each a ha e j hj t = record {
-        lot-in = held .lot-in;
-        remains = subst⁻¹ T (cell-other (entry waits j a) j elsewhere) (held .remains);
-        lower = omega (arith, held .lower, least-stays a other-lot (entry waits j a));
+      own : x / 32 < P .lots → Calls (flags gone) (x / 32) (P .calls) word
+      own ha = record {
+        holds = λ l hl t. by-cases (ℕ-discrete l (x % 32))
+            (λ e. absurd (cell-gone (x / 32) l (omega arith) t))
+            (λ d. w .others l d ∙ h .each (x / 32) ha .holds l hl (fewer (x / 32) l t));
+        within = λ l e. by-cases (ℕ-discrete l (x % 32))
+            (λ z. absurd (true≢false (sym e ∙ subst⁻¹ (λ (b : ℕ). bit word b ≡ false) z (w .out))))
+            (λ d. h .each (x / 32) ha .within l (sym (w .others l d) ∙ e));
       }
-        where
-          kept : Kept (getD before a 0) (entry waits (x % 32) a) (x / 32)
-          kept = r .passed a ha e
 
-          other-lot : a ≡ x / 32 → ⊥
-          other-lot z = omega (arith, e, subst⁻¹ (λ (b : ℕ). getD after b 0 ≡ 0) z own)
+  asks-then : (word : ℕ) (waits before after : List ℕ) → x % 32 < P .calls → Calls (flags gone) (x / 32) (P .calls) word
+      → Asks P (flags rest) waits before → Asked waits (P .lots) (x / 32) (x % 32) before after → getD after (x / 32) 0 ≡ word
+      → Asks P (flags gone) waits after
+  asks-then word waits before after hj left h r own = record {
+    each = λ a l ha hl t e. by-cases (ℕ-discrete a (x / 32))
+        (λ z. absurd (true≢false (sym (left .holds l hl (subst (λ (b : ℕ). T (flags gone b l)) z t)) ∙ there l z e)))
+        (λ d. let i = r .passed a ha d in
+        stays a d l (h .each a l ha hl (fewer a l t) (unasked a l i e)) (λ z. asked-not a l i e z (omega arith)));
+    within = λ a l ha e. by-cases (ℕ-discrete a (x / 32))
+        (λ z. left .within l (there l z e))
+        (λ d. by-cases (ℕ-discrete l (x % 32))
+        (λ z. omega arith)
+        (λ o. h .within a l ha (sym (if-equal-others _ _ _ _ _ l (r .passed a ha d) o) ∙ e)));
+    long = r .long ∙ h .long;
+  }
+    where
+      there : {a : ℕ} {v : Bool} (l : ℕ) → a ≡ x / 32 → bit (getD after a 0) l ≡ v → bit word l ≡ v
+      there l z e = sym (ap (λ (g : ℕ). bit (getD after g 0) l) z ∙ ap (λ (w : ℕ). bit w l) own) ∙ e
 
-          held : Hindered P (flags rest) a j (entry waits j a)
-          held = h .each a ha (kept .marked) j hj (fewer a j t)
+      -- a call that is not in the word was not in it
+      unasked : (a l : ℕ) → IfEqual (getD before a 0) (x % 32) (entry waits (x % 32) a) (x / 32) (getD after a 0)
+          → bit (getD after a 0) l ≡ false → bit (getD before a 0) l ≡ false
+      unasked a l i e = by-cases (ℕ-discrete l (x % 32))
+          (λ z. by-cases (ℕ-discrete (entry waits (x % 32) a) (x / 32))
+          (λ q. absurd (true≢false (sym (i .equal q .is-in) ∙ subst (λ (b : ℕ). bit (getD after a 0) b ≡ false) z e)))
+          (λ q. sym (ap (λ (w : ℕ). bit w l) (i .unequal q)) ∙ e))
+          (λ d. sym (if-equal-others _ _ _ _ _ l i d) ∙ e)
 
-          elsewhere : 32 * entry waits j a + j ≡ x → ⊥
-          elsewhere q =
-              let call : j ≡ x % 32 = omega arith in
-              let lot : entry waits j a ≡ x / 32 = omega arith in
-              kept .other-wait (subst (λ (b : ℕ). entry waits b a ≡ x / 32) call lot)
+      -- and its pair does not wait for the one that is taken
+      asked-not : (a l : ℕ) → IfEqual (getD before a 0) (x % 32) (entry waits (x % 32) a) (x / 32) (getD after a 0)
+          → bit (getD after a 0) l ≡ false → 32 * entry waits l a + l ≡ x → l < 32 → ⊥
+      asked-not a l i e q hl =
+          let call : l ≡ x % 32 = omega arith in
+          let lot : entry waits l a ≡ x / 32 = omega arith in
+          true≢false (sym (i .equal (subst (λ (b : ℕ). entry waits b a ≡ x / 32) call lot) .is-in)
+          ∙ subst (λ (b : ℕ). bit (getD after a 0) b ≡ false) call e)
+
+      stays : (a : ℕ) → (a ≡ x / 32 → ⊥) → (l : ℕ) → Hindered P (flags rest) a l (entry waits l a) → (32 * entry waits l a + l ≡ x → ⊥)
+          → Hindered P (flags gone) a l (entry waits l a)
+      stays a d l held elsewhere = record {
+        lot-in = held .lot-in;
+        remains = subst⁻¹ T (cell-other (entry waits l a) l elsewhere) (held .remains);
+        lower = omega (arith, held .lower, least-stays a d (entry waits l a));
+      }
 
   -- all of it
-  pub holding-then : (tails tails′ least least′ waits settled settled′ : List ℕ) → Holding P rest tails least waits settled
-      → RowsOf P (flags gone) (x / 32) tails tails′ least least′
-      → Unsettled waits (P .lots) (x / 32) (x % 32) settled settled′ → getD settled′ (x / 32) 0 ≡ 0
-      → Holding P gone tails′ least′ waits settled′
-  holding-then tails tails′ least least′ waits settled settled′ h r u own = record {
+  pub holding-then : (tails tails′ least least′ waits asks asks′ lefts lefts′ : List ℕ) → x / 32 < P .lots → x % 32 < P .calls
+      → Holding P rest tails least waits asks lefts → RowsOf P (flags gone) (x / 32) tails tails′ least least′
+      → Lefts (flags gone) (P .lots) (P .calls) lefts′
+      → Asked waits (P .lots) (x / 32) (x % 32) asks asks′ → getD asks′ (x / 32) 0 ≡ getD lefts′ (x / 32) 0
+      → Holding P gone tails′ least′ waits asks′ lefts′
+  holding-then tails tails′ least least′ waits asks asks′ lefts lefts′ hi hj h r left u own = record {
     ready = record {
       eligible = remaining-then (h .ready .eligible);
       rows = λ a ha k hk. by-cases (ℕ-discrete a (x / 32))
@@ -145,7 +193,8 @@ module _ (P : Problem) (calls-few : P .calls ≤ 32) (lots-few : P .lots ≤ 32)
         (λ e. subst (λ (b : ℕ). Tails P (flags gone) b 0 tails′) (sym e) (r .stand))
         (λ d. tails-stay P (flags gone) calls-few lots-few a (x / 32) tails tails′ d (tails-then a d tails (h .stand a ha)) (r .apart));
     waits-hold = waits-then waits (h .waits-hold);
-    settles = settles-then waits settled settled′ (h .settles) u own;
+    asks-hold = asks-then (getD lefts′ (x / 32) 0) waits asks asks′ hj (left .each (x / 32) hi) (h .asks-hold) u own;
+    lefts-hold = left;
     rest-long = simp length-set (h .rest-long);
     tails-long = r .apart .long ∙ h .tails-long;
     least-long = r .row .long ∙ h .least-long;

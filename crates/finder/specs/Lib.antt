@@ -3,4 +3,5 @@ pub mod Table
 pub mod Work
 pub mod Writing
 pub mod Rows
+pub mod Words
 pub mod Waiting

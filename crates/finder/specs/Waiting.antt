@@ -1,4 +1,4 @@
--- What the finder's marks say: the lots that let a pair pass, the lot that hinders it, and the lots all of whose pairs are hindered.
+-- What the finder's marks say: the lots that let a pair pass, the lot that hinders it, and the calls that each lot is to be asked for.
 use mathlib.Core.Path.{_≡_}
 use mathlib.Core.Bool.{Bool, true, false, cond}
 use mathlib.Core.List.{List}
@@ -8,10 +8,12 @@ use lib.ListN.{length, getD}
 use Rattle.transport.specs.Problem.{Problem}
 use Rattle.transport.proofs.Finder.Free.{Takeable}
 use Rattle.transport.proofs.Finder.Gaps.{gap, leastGap}
+use Rattle.specification.specs.Book.{bit}
 use Rattle.book.specs.Table.{entry}
 use Rattle.finder.specs.Table.{limit}
 use Rattle.finder.specs.Work.{flags, Filled, FirstCall, Ready}
 use Rattle.finder.specs.Rows.{headroom, Tails, Apart}
+use Rattle.finder.specs.Words.{IfEqual, Lefts}
 
 -- row l holds the headrooms of call l for the pairs that remain, and 0 for the others
 abbrev pub Live : List ℕ → List ℕ → ℕ → ℕ → (ℕ → ℕ → Bool) → List ℕ → Type 0
@@ -39,14 +41,11 @@ pub record Waits (P : Problem) (rest : ℕ → ℕ → Bool) (waits : List ℕ) 
   pub passed : (i j : ℕ) → i < P .lots → j < P .calls → T (rest i j) → Passed P rest i j 0 (entry waits j i)
   pub long : length waits ≡ 1024
 
--- each pair of lot i that remains is hindered by the lot at its mark
-abbrev pub Settled : Problem → (ℕ → ℕ → Bool) → List ℕ → ℕ → ℕ → Type 0
-Settled P rest waits i calls = (j : ℕ) → j < calls → T (rest i j) → Hindered P rest i j (entry waits j i)
-
--- so it is for each lot that is marked 1
-pub record Settles (P : Problem) (rest : ℕ → ℕ → Bool) (waits settled : List ℕ) : Type 0 where
-  pub each : (i : ℕ) → i < P .lots → getD settled i 0 ≡ 1 → Settled P rest waits i (P .calls)
-  pub long : length settled ≡ 32
+-- each pair that remains is hindered by the lot at its mark, unless its call is in the word of its lot
+pub record Asks (P : Problem) (rest : ℕ → ℕ → Bool) (waits asks : List ℕ) : Type 0 where
+  pub each : (i j : ℕ) → i < P .lots → j < P .calls → T (rest i j) → bit (getD asks i 0) j ≡ false → Hindered P rest i j (entry waits j i)
+  pub within : (i j : ℕ) → i < P .lots → bit (getD asks i 0) j ≡ true → j < P .calls
+  pub long : length asks ≡ 32
 
 -- the marks of the other pairs are as they were
 abbrev pub Else : ℕ → ℕ → List ℕ → List ℕ → Type 0
@@ -59,34 +58,22 @@ pub record Tried (P : Problem) (rest : ℕ → ℕ → Bool) (i j : ℕ) (r : Bo
   pub waits : Waits P rest after
   pub others : Else i j before after
 
--- the calls of lot i were looked through, and the marks of other lots are as they were
-pub record Looked (P : Problem) (rest : ℕ → ℕ → Bool) (i r : ℕ) (before after : List ℕ) : Type 0 where
-  pub call : FirstCall P rest i r
-  pub waits : Waits P rest after
-  pub settled : Settled P rest after i r
-  pub others : (g h : ℕ) → g < 32 → (g ≡ i → ⊥) → entry after h g ≡ entry before h g
-
 -- the rows of lot i, and its row of least gaps, were worked out
 pub record RowsOf (P : Problem) (rest : ℕ → ℕ → Bool) (i : ℕ) (tails tails′ least least′ : List ℕ) : Type 0 where
   pub stand : Tails P rest i 0 tails′
   pub apart : Apart i tails tails′
   pub row : Filled i (leastGap P limit rest i) (P .lots) least least′
 
--- the calls of lot i were looked through, or it is settled
-pub record Seen (P : Problem) (rest : ℕ → ℕ → Bool) (i r : ℕ) (waits settled : List ℕ) : Type 0 where
+-- the calls of lot i were looked through
+pub record Seen (P : Problem) (rest : ℕ → ℕ → Bool) (i r : ℕ) (waits asks : List ℕ) : Type 0 where
   pub call : FirstCall P rest i r
   pub waits-hold : Waits P rest waits
-  pub settles : Settles P rest waits settled
+  pub asks-hold : Asks P rest waits asks
 
--- a mark that stays 1: it was 1, and the pair does not wait for the lot that was taken
-pub record Kept (mark wait taken : ℕ) : Type 0 where
-  pub marked : mark ≡ 1
-  pub other-wait : wait ≡ taken → ⊥
-
--- so it is for each of the first lots that is marked 1, with its pair at call j, once lot i was taken there
-pub record Unsettled (waits : List ℕ) (count i j : ℕ) (before after : List ℕ) : Type 0 where
-  pub passed : (k : ℕ) → k < count → getD after k 0 ≡ 1 → Kept (getD before k 0) (entry waits j k) i
-  pub later : (k : ℕ) → count ≤ k → getD after k 0 ≡ getD before k 0
+-- for each of the first lots but i, call j is put into its word if its pair there waits for lot i
+pub record Asked (waits : List ℕ) (count i j : ℕ) (before after : List ℕ) : Type 0 where
+  pub passed : (k : ℕ) → k < count → (k ≡ i → ⊥) → IfEqual (getD before k 0) j (entry waits j k) i (getD after k 0)
+  pub later : (k : ℕ) → count ≤ k → (k ≡ i → ⊥) → getD after k 0 ≡ getD before k 0
   pub long : length after ≡ length before
 
 -- the last row of each lot holds the top
@@ -101,11 +88,12 @@ pub record AllRows (P : Problem) (rest : ℕ → ℕ → Bool) (count : ℕ) (ta
   pub least-long : length least ≡ 1024
 
 -- all that the finder keeps
-pub record Holding (P : Problem) (rest tails least waits settled : List ℕ) : Type 0 where
+pub record Holding (P : Problem) (rest tails least waits asks lefts : List ℕ) : Type 0 where
   pub ready : Ready P rest least
   pub stand : (i : ℕ) → i < P .lots → Tails P (flags rest) i 0 tails
   pub waits-hold : Waits P (flags rest) waits
-  pub settles : Settles P (flags rest) waits settled
+  pub asks-hold : Asks P (flags rest) waits asks
+  pub lefts-hold : Lefts (flags rest) (P .lots) (P .calls) lefts
   pub rest-long : length rest ≡ 1024
   pub tails-long : length tails ≡ 33792
   pub least-long : length least ≡ 1024

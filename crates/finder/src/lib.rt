@@ -6,6 +6,7 @@ mod remaining;
 mod rows;
 mod search;
 mod waiting;
+mod words;
 mod writing;
 
 use inner::Search;

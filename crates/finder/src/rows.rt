@@ -1,6 +1,9 @@
 // The least gaps of each lot: over the calls from each one on, so that a pair taken changes those of lower calls alone.
 use super::heads::cost_by;
 use super::heads::gap_by;
+use super::words::below;
+use super::words::highest;
+use super::words::without;
 use specification::Call;
 use specification::Lot;
 ghost use mathlib.Core.Path.{_≡_};
@@ -10,6 +13,7 @@ ghost use Rattle.book.specs.Table.{entry, problemBy};
 ghost use Rattle.finder.specs.Table.{limit, Stated};
 ghost use Rattle.finder.specs.Work.{flags, Remaining, Filled};
 ghost use Rattle.finder.specs.Rows.{gapBy, Heads, Begun, Lowered, Above};
+ghost use Rattle.finder.specs.Words.{Calls, Lefts};
 ghost use Rattle.finder.specs.Waiting.{RowsOf, AllRows, Ends};
 
 // The lesser of two numbers.
@@ -80,7 +84,7 @@ fn lower_call(
     }
 }
 
-// The rows of lot i for its calls below `start` are worked out. The lowest call that remains to lot i, or 32.
+// The rows of lot i for its calls below `start`, of those left to it, are worked out. The lowest call that remains to lot i, or 32.
 fn lower_from(
     book: &[u8],
     offsets: &[u16; 1024],
@@ -91,6 +95,7 @@ fn lower_from(
     lot: Lot,
     start: usize,
     above: usize,
+    left: u32,
     tails: &mut [u32; 33792],
 ) -> usize
     requires { ⌜ Stated (now book) (now offsets) n m ⌝ }
@@ -98,14 +103,17 @@ fn lower_from(
     requires { ⌜ Heads (now book) (now offsets) n m (now heads) ⌝ }
     requires { ⌜ (lot .0 < n) × (start ≤ m) × (length (now tails) ≡ 33792) ⌝ }
     requires { ⌜ Begun (problemBy (now book) (now offsets) n m) (flags (now rest)) (lot .0) start above (now tails) ⌝ }
+    requires { ⌜ Calls (flags (now rest)) (lot .0) m left ⌝ }
     ensures { λ r. ⌜ Lowered (problemBy (now (book .entry)) (now (offsets .entry)) n m) (flags (now (rest .entry))) (lot .0) 0 r
         (now (tails .entry)) (now (tails .exit)) ⌝ }
 {
     let i = lot.0;
     let mut up = above;
     let mut p = start;
-    while 0 < p {
-        p -= 1;
+    let mut calls = below(left, start);
+    while 0 < calls {
+        p = highest(calls);
+        calls = without(calls, p);
         up = lower_call(book, offsets, heads, rest, n, m, Lot(i), Call(p), up, tails);
     }
     up
@@ -140,7 +148,7 @@ fn copy_row(tails: &[u32; 33792], n: usize, from: usize, i: usize, least: &mut [
     }
 }
 
-// The rows of lot i for its calls below `start`, and its row of least gaps.
+// The rows of lot i for its calls below `start`, of those left to it, and its row of least gaps.
 pub fn row_from(
     book: &[u8],
     offsets: &[u16; 1024],
@@ -151,6 +159,7 @@ pub fn row_from(
     lot: Lot,
     start: usize,
     above: usize,
+    left: u32,
     tails: &mut [u32; 33792],
     least: &mut [u32; 1024],
 )
@@ -159,11 +168,24 @@ pub fn row_from(
     requires { ⌜ Heads (now book) (now offsets) n m (now heads) ⌝ }
     requires { ⌜ (lot .0 < n) × (start ≤ m) × (length (now tails) ≡ 33792) × (length (now least) ≡ 1024) ⌝ }
     requires { ⌜ Begun (problemBy (now book) (now offsets) n m) (flags (now rest)) (lot .0) start above (now tails) ⌝ }
+    requires { ⌜ Calls (flags (now rest)) (lot .0) m left ⌝ }
     ensures { λ r. ⌜ RowsOf (problemBy (now (book .entry)) (now (offsets .entry)) n m) (flags (now (rest .entry))) (lot .0) (now (tails .entry))
         (now (tails .exit)) (now (least .entry)) (now (least .exit)) ⌝ }
 {
     let i = lot.0;
-    let top = lower_from(book, offsets, heads, rest, n, m, lot, start, above, tails);
+    let top = lower_from(
+        book,
+        offsets,
+        heads,
+        rest,
+        n,
+        m,
+        lot,
+        start,
+        above,
+        left,
+        tails,
+    );
     copy_row(tails, n, 33 * i + top, i, least);
 }
 
@@ -175,12 +197,14 @@ pub fn fill_rows(
     rest: &[u8; 1024],
     n: usize,
     m: usize,
+    lefts: &[u32; 32],
     tails: &mut [u32; 33792],
     least: &mut [u32; 1024],
 )
     requires { ⌜ Stated (now book) (now offsets) n m ⌝ }
     requires { ⌜ Remaining (problemBy (now book) (now offsets) n m) (now rest) ⌝ }
     requires { ⌜ Heads (now book) (now offsets) n m (now heads) ⌝ }
+    requires { ⌜ Lefts (flags (now rest)) n m (now lefts) ⌝ }
     requires { ⌜ Ends n (now tails) × (length (now tails) ≡ 33792) × (length (now least) ≡ 1024) ⌝ }
     ensures { λ r. ⌜ AllRows (problemBy (now (book .entry)) (now (offsets .entry)) n m) (flags (now (rest .entry))) n (now (tails .exit))
         (now (least .exit)) ⌝ }
@@ -197,6 +221,7 @@ pub fn fill_rows(
             Lot(i),
             m,
             32,
+            lefts[i],
             tails,
             least,
         );

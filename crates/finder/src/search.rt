@@ -4,8 +4,10 @@ use super::inner::Search;
 use super::rows::fill_rows;
 use super::rows::next_above;
 use super::rows::row_from;
+use super::waiting::ask_again;
 use super::waiting::first_pair;
-use super::waiting::unsettle;
+use super::words::fill_lefts;
+use super::words::without;
 use super::writing::put;
 use super::writing::write_order;
 use specification::Call;
@@ -22,8 +24,7 @@ ghost use Rattle.finder.specs.Rows.{Heads};
 ghost use Rattle.finder.specs.Waiting.{Live, Holding};
 ghost use Rattle.finder.specs.Writing.{CountIs, Orders};
 
-// The pair at place x is taken: its mark goes, the rows of its lot are worked out, and the lots that may have a pair to take then are
-// settled no more.
+// The pair at place x is taken: its mark goes, the rows of its lot are worked out, and the pairs that may be free then are to be tried.
 fn take_pair(
     book: &[u8],
     offsets: &[u16; 1024],
@@ -36,21 +37,23 @@ fn take_pair(
     tails: &mut [u32; 33792],
     least: &mut [u32; 1024],
     waits: &[u8; 1024],
-    settled: &mut [u8; 32],
+    asks: &mut [u32; 32],
+    lefts: &mut [u32; 32],
 )
     requires { ⌜ Stated (now book) (now offsets) n m ⌝ }
     requires { ⌜ Heads (now book) (now offsets) n m (now heads) ⌝ }
-    requires { ⌜ Holding (problemBy (now book) (now offsets) n m) (now rest) (now tails) (now least) (now waits) (now settled) ⌝ }
+    requires { ⌜ Holding (problemBy (now book) (now offsets) n m) (now rest) (now tails) (now least) (now waits) (now asks) (now lefts) ⌝ }
     requires { ⌜ Live (now book) (now offsets) n m (flags (now rest)) (now live) × (length (now live) ≡ 1024) ⌝ }
     requires { ⌜ (x < 1024) × (x / 32 < n) × (x % 32 < m) ⌝ }
     ensures { λ r. ⌜ now (rest .exit) ≡ set (now (rest .entry)) x 0 ⌝ }
     ensures { λ r. ⌜ Holding (problemBy (now (book .entry)) (now (offsets .entry)) n m) (now (rest .exit)) (now (tails .exit)) (now
-        (least .exit)) (now (waits .entry)) (now (settled .exit)) ⌝ }
+        (least .exit)) (now (waits .entry)) (now (asks .exit)) (now (lefts .exit)) ⌝ }
     ensures { λ r. ⌜ Live (now (book .entry)) (now (offsets .entry)) n m (flags (now (rest .exit))) (now (live .exit)) × (length (now
         (live .exit)) ≡ 1024) ⌝ }
 {
     rest[x] = 0;
     live[32 * (x % 32) + x / 32] = 0;
+    lefts[x / 32] = without(lefts[x / 32], x % 32);
     let up = next_above(rest, m, Lot(x / 32), Call(x % 32));
     row_from(
         book,
@@ -62,10 +65,11 @@ fn take_pair(
         Lot(x / 32),
         x % 32,
         up,
+        lefts[x / 32],
         tails,
         least,
     );
-    unsettle(waits, n, Lot(x / 32), Call(x % 32), settled);
+    ask_again(waits, n, Lot(x / 32), Call(x % 32), lefts[x / 32], asks);
 }
 
 // An order of the eligible pairs, which are marked: the count of its pairs, with two bytes a pair, lot and call, at the start of the array;
@@ -89,10 +93,22 @@ fn find_pairs(
     let mut heads: [u32; 1024] = [0; 1024];
     let mut tails: [u32; 33792] = [2000001; 33792];
     let mut waits: [u8; 1024] = [0; 1024];
-    let mut settled: [u8; 32] = [0; 32];
+    let mut lefts: [u32; 32] = [0; 32];
     fill_heads(book, offsets, n, m, &mut heads);
     let mut live = heads;
-    fill_rows(book, offsets, &heads, rest, n, m, &mut tails, &mut least);
+    fill_lefts(rest, n, m, &mut lefts);
+    let mut asks = lefts;
+    fill_rows(
+        book,
+        offsets,
+        &heads,
+        rest,
+        n,
+        m,
+        &lefts,
+        &mut tails,
+        &mut least,
+    );
     let mut count = 0;
     while count < total {
         let x = first_pair(
@@ -104,7 +120,7 @@ fn find_pairs(
             n,
             m,
             &mut waits,
-            &mut settled,
+            &mut asks,
         );
         if x == 1024 {
             return Search::Nothing;
@@ -121,7 +137,8 @@ fn find_pairs(
             &mut tails,
             &mut least,
             &waits,
-            &mut settled,
+            &mut asks,
+            &mut lefts,
         );
         put(pairs, count, x);
         count += 1;

@@ -1,5 +1,9 @@
-// The pair to take next. For each pair the lowest lot that may still hinder it is kept, and for each lot whether all its pairs are hindered.
+// The pair to take next. For each pair the lowest lot that may still hinder it is kept, and for each lot the word of the calls to ask it
+// for: its pairs with all others are hindered.
 use super::remaining::wide_byte;
+use super::words::lowest;
+use super::words::with_equal;
+use super::words::without;
 use specification::Call;
 use specification::Lot;
 ghost use mathlib.Core.Path.{_≡_};
@@ -15,7 +19,7 @@ ghost use Rattle.transport.proofs.Finder.Gaps.{gap, leastGap};
 ghost use Rattle.book.specs.Table.{problemBy};
 ghost use Rattle.finder.specs.Table.{costAt, limit, Stated};
 ghost use Rattle.finder.specs.Work.{flags, Ready, pairAt};
-ghost use Rattle.finder.specs.Waiting.{Live, Lowest, Waits, Settles, Tried, Looked, Seen, Kept, Unsettled};
+ghost use Rattle.finder.specs.Waiting.{Live, Lowest, Waits, Asks, Tried, Seen, Asked};
 
 // The greater of two numbers.
 fn greater(a: u32, b: u32) -> u32
@@ -146,7 +150,7 @@ fn try_call(
     }
 }
 
-// The lowest call whose pair with lot i can be taken, or m.
+// The lowest call whose pair with lot i can be taken, or m. Only the calls in its word are tried, and each that is hindered leaves it.
 fn first_call(
     book: &[u8],
     offsets: &[u16; 1024],
@@ -157,16 +161,18 @@ fn first_call(
     m: usize,
     i: usize,
     waits: &mut [u8; 1024],
+    asks: &mut [u32; 32],
 ) -> usize
     requires { ⌜ Stated (now book) (now offsets) n m ⌝ }
     requires { ⌜ Live (now book) (now offsets) n m (flags (now rest)) (now live) ⌝ }
     requires { ⌜ Ready (problemBy (now book) (now offsets) n m) (now rest) (now least) ⌝ }
-    requires { ⌜ Waits (problemBy (now book) (now offsets) n m) (flags (now rest)) (now waits) × (i < n) ⌝ }
-    ensures { λ r. ⌜ Looked (problemBy (now (book .entry)) (now (offsets .entry)) n m) (flags (now (rest .entry))) i r (now (waits .entry))
-        (now (waits .exit)) ⌝ }
+    requires { ⌜ Waits (problemBy (now book) (now offsets) n m) (flags (now rest)) (now waits) × Asks (problemBy (now book) (now offsets)
+        n m) (flags (now rest)) (now waits) (now asks) × (i < n) ⌝ }
+    ensures { λ r. ⌜ Seen (problemBy (now (book .entry)) (now (offsets .entry)) n m) (flags (now (rest .entry))) i r (now (waits .exit))
+        (now (asks .exit)) ⌝ }
 {
-    let mut j = 0;
-    while j < m {
+    while 0 < asks[i] {
+        let j = lowest(asks[i]);
         if try_call(
             book,
             offsets,
@@ -181,45 +187,9 @@ fn first_call(
         ) {
             return j;
         }
-        j += 1;
+        asks[i] = without(asks[i], j);
     }
-    j
-}
-
-// 1 for equal numbers, else 0.
-fn is_same(a: usize, b: usize) -> u8
-    ensures { λ r. ⌜ (r ≡ 1 → a ≡ b) ⌝ }
-{
-    if a == b { 1 } else { 0 }
-}
-
-// The same, and m at once for a lot that is settled; a lot that has none to take is settled.
-fn look(
-    book: &[u8],
-    offsets: &[u16; 1024],
-    live: &[u32; 1024],
-    rest: &[u8; 1024],
-    least: &[u32; 1024],
-    n: usize,
-    m: usize,
-    i: usize,
-    waits: &mut [u8; 1024],
-    settled: &mut [u8; 32],
-) -> usize
-    requires { ⌜ Stated (now book) (now offsets) n m ⌝ }
-    requires { ⌜ Live (now book) (now offsets) n m (flags (now rest)) (now live) ⌝ }
-    requires { ⌜ Ready (problemBy (now book) (now offsets) n m) (now rest) (now least) ⌝ }
-    requires { ⌜ Waits (problemBy (now book) (now offsets) n m) (flags (now rest)) (now waits) × Settles (problemBy (now book) (now offsets)
-        n m) (flags (now rest)) (now waits) (now settled) × (i < n) ⌝ }
-    ensures { λ r. ⌜ Seen (problemBy (now (book .entry)) (now (offsets .entry)) n m) (flags (now (rest .entry))) i r (now (waits .exit))
-        (now (settled .exit)) ⌝ }
-{
-    if settled[i] == 1 {
-        return m;
-    }
-    let j = first_call(book, offsets, live, rest, least, n, m, i, waits);
-    settled[i] = is_same(j, m);
-    j
+    m
 }
 
 // The place of the pair to take next, or 1024.
@@ -232,22 +202,22 @@ pub fn first_pair(
     n: usize,
     m: usize,
     waits: &mut [u8; 1024],
-    settled: &mut [u8; 32],
+    asks: &mut [u32; 32],
 ) -> usize
     requires { ⌜ Stated (now book) (now offsets) n m ⌝ }
     requires { ⌜ Live (now book) (now offsets) n m (flags (now rest)) (now live) ⌝ }
     requires { ⌜ Ready (problemBy (now book) (now offsets) n m) (now rest) (now least) ⌝ }
-    requires { ⌜ Waits (problemBy (now book) (now offsets) n m) (flags (now rest)) (now waits) × Settles (problemBy (now book) (now offsets)
-        n m) (flags (now rest)) (now waits) (now settled) ⌝ }
+    requires { ⌜ Waits (problemBy (now book) (now offsets) n m) (flags (now rest)) (now waits) × Asks (problemBy (now book) (now offsets)
+        n m) (flags (now rest)) (now waits) (now asks) ⌝ }
     ensures { λ r. ⌜ next (problemBy (now (book .entry)) (now (offsets .entry)) n m) (flags (now (rest .entry))) ≡ pairAt r ⌝ }
     ensures { λ r. ⌜ r ≤ 1024 ⌝ }
     ensures { λ r. ⌜ Waits (problemBy (now (book .entry)) (now (offsets .entry)) n m) (flags (now (rest .entry))) (now (waits .exit)) ×
-        Settles (problemBy (now (book .entry)) (now (offsets .entry)) n m) (flags (now (rest .entry))) (now (waits .exit)) (now
-        (settled .exit)) ⌝ }
+        Asks (problemBy (now (book .entry)) (now (offsets .entry)) n m) (flags (now (rest .entry))) (now (waits .exit)) (now
+        (asks .exit)) ⌝ }
 {
     let mut i = 0;
     while i < n {
-        let j = look(book, offsets, live, rest, least, n, m, i, waits, settled);
+        let j = first_call(book, offsets, live, rest, least, n, m, i, waits, asks);
         if j < m {
             return 32 * i + j;
         }
@@ -256,26 +226,27 @@ pub fn first_pair(
     1024
 }
 
-// The mark of a lot whose pair waits for a lot, once that lot's pair with the call is taken.
-fn keep(mark: u8, wait: u8, taken: u8) -> u8
-    ensures { λ r. ⌜ (r ≡ 1 → Kept mark wait taken) ⌝ }
-{
-    if wait == taken { 0 } else { mark }
-}
-
-// The lots that may have a pair to take, once the pair is taken, are settled no more: its own, and each whose pair with the call waits for it.
-pub fn unsettle(waits: &[u8; 1024], n: usize, lot: Lot, call: Call, settled: &mut [u8; 32])
-    requires { ⌜ (n ≤ 32) × (lot .0 < n) × (call .0 < 32) × (length (now settled) ≡ 32) ⌝ }
-    ensures { λ r. ⌜ Unsettled (now (waits .entry)) n (lot .0) (call .0) (now (settled .entry)) (now (settled .exit)) ⌝ }
-    ensures { λ r. ⌜ getD (now (settled .exit)) (lot .0) 0 ≡ 0 ⌝ }
+// The calls to ask for, once the pair is taken: its lot for all that are left to it, and each lot whose pair with the call waits for its lot
+// for that call.
+pub fn ask_again(
+    waits: &[u8; 1024],
+    n: usize,
+    lot: Lot,
+    call: Call,
+    left: u32,
+    asks: &mut [u32; 32],
+)
+    requires { ⌜ (n ≤ 32) × (lot .0 < n) × (call .0 < 32) × (length (now asks) ≡ 32) ⌝ }
+    ensures { λ r. ⌜ Asked (now (waits .entry)) n (lot .0) (call .0) (now (asks .entry)) (now (asks .exit)) ⌝ }
+    ensures { λ r. ⌜ getD (now (asks .exit)) (lot .0) 0 ≡ left ⌝ }
 {
     let i = lot.0;
     let j = call.0;
     let taken = i as u8;
     let mut k = 0;
     while k < n {
-        settled[k] = keep(settled[k], waits[32 * j + k], taken);
+        asks[k] = with_equal(asks[k], j, waits[32 * j + k], taken);
         k += 1;
     }
-    settled[i] = 0;
+    asks[i] = left;
 }

@@ -10,16 +10,16 @@ use Rattle.finder.proofs.rows.fill_rows.Statement.{statement}
 use Rattle.finder.proofs.rows.fill_rows.Tie as tie
 
 abbrev Inv-loop : tie.InvT-loop
-Inv-loop book offsets heads rest n m tails₀ least₀ i₀ tails least i =
+Inv-loop book offsets heads rest n m lefts tails₀ least₀ i₀ tails least i =
     (i ≤ n) × AllRows (problemBy book offsets n m) (flags rest) i tails least
     × ((a : ℕ) → i ≤ a → a < n → (k : ℕ) → k < n → entry tails (33 * a + 32) k ≡ 2000001)
 
 abbrev μ-loop : tie.MeasureT-loop
-μ-loop book offsets heads rest n m tails₀ least₀ i₀ tails least i = n - i
+μ-loop book offsets heads rest n m lefts tails₀ least₀ i₀ tails least i = n - i
 
 loop-holds : tie.Need-loop-holds Inv-loop μ-loop
 loop-holds c =
-    let p = c .before .pre .1 .1 .1 in (
+    let p = c .before .pre .1 .1 .1 .1 in (
       omega arith,
       record { stand = λ i h. absurd (omega arith); rows = λ i h. absurd (omega arith); tails-long = p .1; least-long = p .2 },
       λ a h. p .0 a,
@@ -27,18 +27,21 @@ loop-holds c =
 
 row-from-requires : tie.Need-row-from-requires Inv-loop μ-loop
 row-from-requires c κs =
-    let a = c .before .before .before .before .before .args in
-    let p = c .before .before .before .before .before .pre in
-    let inv = c .before .before .before .loop .inv in (
+    let a = c .before .before .before .before .before .before .args in
+    let p = c .before .before .before .before .before .before .pre in
+    let inv = c .before .before .before .before .loop .inv in (
       p .0,
       (
         p .1 .0,
         (
           p .1 .1 .0,
           (
-            (c .before .before .loop-test .taken, omega arith, inv .1 .tails-long, inv .1 .least-long),
-            begun-last (problemBy (a .book .now) (a .offsets .now) (a .n) (a .m)) (flags (a .rest .now)) (p .0 .calls-few) (p .0
-                .lots-few) _ _ (inv .2 _ (omega arith) (c .before .before .loop-test .taken)),
+            (c .before .before .before .loop-test .taken, omega arith, inv .1 .tails-long, inv .1 .least-long),
+            (
+              begun-last (problemBy (a .book .now) (a .offsets .now) (a .n) (a .m)) (flags (a .rest .now)) (p .0 .calls-few) (p .0
+                  .lots-few) _ _ (inv .2 _ (omega arith) (c .before .before .before .loop-test .taken)),
+              p .1 .1 .1 .0 .each _ (c .before .before .before .loop-test .taken),
+            ),
           ),
         ),
       ),
@@ -46,9 +49,9 @@ row-from-requires c κs =
 
 loop-again : tie.Need-loop-again Inv-loop μ-loop
 loop-again c =
-    let a = c .before .before .before .before .before .before .args in
-    let p = c .before .before .before .before .before .before .pre in
-    let inv = c .before .before .before .before .loop .inv in
+    let a = c .before .before .before .before .before .before .before .args in
+    let p = c .before .before .before .before .before .before .before .pre in
+    let inv = c .before .before .before .before .before .loop .inv in
     let r = c .row-from .ensures in (
       omega arith,
       all-rows-more (problemBy (a .book .now) (a .offsets .now) (a .n) (a .m)) (flags (a .rest .now)) (p .0 .calls-few)
@@ -67,6 +70,8 @@ fill-rows-spec =
     Inv-loop
     μ-loop
     loop-holds
+    (λ c. omega arith)
+    (λ c. omega (arith, c .before .before .before .pre .0 .lots-few))
     row-from-requires
     (λ c. omega arith)
     (λ c. omega arith)

@@ -10,7 +10,7 @@ lower-from-requires : tie.Need-lower-from-requires
 lower-from-requires c κs =
     let p = c .before .before .pre in
     let q = p .1 .1 .1 .0 in
-    (p .0, (p .1 .0, (p .1 .1 .0, ((q .0, q .1, q .2), p .1 .1 .1 .1))))
+    (p .0, (p .1 .0, (p .1 .1 .0, ((q .0, q .1, q .2), (p .1 .1 .1 .1 .0, p .1 .1 .1 .1 .1)))))
 
 returns : tie.Need-returns
 returns c =
