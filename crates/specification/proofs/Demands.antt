@@ -17,7 +17,6 @@ use Rattle.transport.proofs.Greedy.Converse.{monge-of-good}
 use Rattle.transport.proofs.Finder.Find.{find-is-order, find-is-monge, find-none}
 use Rattle.specification.specs.Reply.{Reply, gives, refuses}
 use Rattle.specification.specs.Book.{problemOf, lotCosts}
-use Rattle.specification.specs.Amounts.{amountLimit}
 use Rattle.specification.specs.OrderFile.{orderCount}
 use Rattle.specification.specs.Run.{runFlow}
 use Rattle.specification.specs.Find.{orderLength, foundOrder, findOrder, findBuffer, foundToRun, findAndRun, findAndRunFlow}
@@ -117,7 +116,7 @@ module _ (book buffer : List ℕ) (readable : Readable book) (long : orderLength
 
   found-if-good : (S : List Pair) → GoodOrder book S → findOrder book buffer ≡ gives (orderLength book)
   found-if-good S (order, good) =
-      let monge = monge-of-good amountLimit (problemOf book) S order good (lit≤ tt) in
+      let monge = monge-of-good _ (problemOf book) S order good (lit≤ tt) in
       let some-order : (find (problemOf book) ≡ none → ⊥) = λ e. find-none (problemOf book) e S order monge in
       let (n, gave, e) = gives-if-never-refused (find-says book buffer) (λ k vs q. some-order (only-13 q .1)) in
       e ∙ ap gives (gave .0)
@@ -130,7 +129,7 @@ module _ (book buffer : List ℕ) (readable : Readable book) (long : orderLength
       found-is-good : (S : List Pair) → find (problemOf book) ≡ some S → GoodOrder book S
       found-is-good S found =
           let order = find-is-order (problemOf book) S found in
-          (order, good-of-monge order (find-is-monge (problemOf book) S found) amountLimit)
+          (order, good-of-monge order (find-is-monge (problemOf book) S found) _)
 
 pub demand3 : Demand3
 demand3 = record {

@@ -20,7 +20,7 @@ use Rattle.transport.proofs.Greedy.Optimal.{greedy-most-units, greedy-least-cos
 use Rattle.specification.specs.declared.Refusal.the-variants as refusal
 use Rattle.specification.specs.Reply.{gives, refuses, Size, Outcome, full, short}
 use Rattle.specification.specs.Book.{problemOf}
-use Rattle.specification.specs.Amounts.{amountLimit, readAmounts, lotAmount, callAmount}
+use Rattle.specification.specs.Amounts.{readAmounts, lotAmount, callAmount}
 use Rattle.specification.specs.OrderFile.{orderPairs}
 use Rattle.specification.specs.Check.{checkOrder}
 use Rattle.specification.specs.Run.{greedyOn, nothingLeft, outcome, flowOf, flowTooShort, runOrder, runFlow}
@@ -132,7 +132,7 @@ module _ (P : Problem) (s : State) where
 -- every order that passes is good, gives most units, and its runs are refused for the amounts or the buffer alone
 pub by-passing : (book order : List ℕ) → Passing book order → ByReturned book order
 by-passing book order passing = record {
-  good = (passing .each-once, good-of-monge (passing .each-once) (passing .monge) amountLimit);
+  good = (passing .each-once, good-of-monge (passing .each-once) (passing .monge) _);
   most-units = λ a b within x h. greedy-most-units (passing .each-once) (passing .monge) a b h;
   refused-only = λ amounts flow k vs e. of-run (said-of-refused (run-says book order amounts flow) k vs e);
   units-and-cost = λ amounts flow o e. (its-units amounts flow o e, its-cost amounts flow o e);
