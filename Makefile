@@ -23,7 +23,8 @@ build/place: $(SOURCES)
 	mkdir -p build
 	cp target/bin/place $@
 
-install: all
+install: all build/place
+	install -D -m 755 build/place $(DESTDIR)$(PREFIX)/bin/place
 	install -d $(DESTDIR)$(PREFIX)/include $(DESTDIR)$(PREFIX)/lib/pkgconfig
 	install -m 644 include/placer.h $(DESTDIR)$(PREFIX)/include
 	install -m 644 build/libplacer.a $(DESTDIR)$(PREFIX)/lib

@@ -1,7 +1,7 @@
 /* placer.h: place bond lots on margin calls, at least cost, by an order of the eligible pairs.
  *
- * This header is the manual of the C library (libplacer.a, libplacer.so; x86-64 Linux only). The rules are those of document 01; what a
- * caller has to know of them stands here.
+ * This header is the manual of the C library (libplacer.a, libplacer.so; x86-64 Linux only; C99 or C++11). All that a caller has to know
+ * stands here; docs/FORMATS.md of the sources has the files byte by byte.
  *
  * A lot is a source of whole units, a call wants whole units. A book says for each lot and call whether the pair is eligible and what a
  * unit costs on it. An order lists the eligible pairs; running it gives each pair in turn the smaller of what its lot has left and what

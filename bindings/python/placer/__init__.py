@@ -1,4 +1,4 @@
-"""The collateral placer: bond lots go to margin calls, at the least cost and without passing over a lot that fits.
+"""The collateral placer: bond lots go to margin calls, as many units as can be placed, and at the least cost where everything can be met.
 
 Simplest call: `place(costs, lots, calls)`. The others work on the files of document 01, over any bytes-like object.
 

@@ -69,9 +69,17 @@ def lend(data: BytesLike) -> Tuple[Any, int]:
 def lend_items(buffer: Writable, size: int) -> Tuple[Any, int]:
     """Return what ctypes passes for a slice to write, and its count of items of `size` bytes."""
     view = memoryview(buffer)
-    if view.readonly or not view.c_contiguous or view.itemsize != size:
-        raise TypeError(f"a writable buffer of {8 * size}-bit items is needed")
+    if view.readonly or not view.c_contiguous or view.itemsize != size or view.format[-1] not in "bBcIiLl":
+        raise TypeError(f"a writable buffer of {8 * size}-bit whole numbers is needed")
     return (ctypes.c_uint8 * view.nbytes).from_buffer(view), len(view)
+
+
+def apart(lent: Tuple[Any, int], *files: Tuple[Any, int]) -> None:
+    """Raise ValueError if a buffer to write shares memory with a file, which the library does not allow."""
+    start = ctypes.addressof(lent[0])
+    for data, length in files:
+        if not isinstance(data, bytes) and start < ctypes.addressof(data) + length and ctypes.addressof(data) < start + ctypes.sizeof(lent[0]):
+            raise ValueError("the buffer to write overlaps a file that is read")
 
 
 def call(name: str, *slices: Tuple[Any, int]) -> Tuple[int, Tuple[int, ...]]:

@@ -17,14 +17,15 @@ from .tables import BadInput, Problem, contents, load, told
 
 FULL, SHORT, REFUSED = 0, 1, 2  # exit status
 
-_ABOUT = f"""Places bond lots to margin calls at the least cost.
+_ABOUT = f"""Places bond lots to margin calls: as many units as can be placed, and at the least cost where
+everything can be met.
 
 FILES are three CSV tables or two binary files:
   PAIRS LOTS CALLS   tables with the header lines lot,call,cost and lot,amount and call,amount;
                      a pair that is absent is not eligible; costs are whole hundredths of a cent
                      per unit, 0 to 1,000,000, amounts whole units, 0 to 1,000,000,000
   BOOK AMOUNTS       a book (.clb) and an amounts file (.cla), as `placer encode` writes them
-One of FILES may be -, standard input. Lots and calls are at most 32 each.
+One of the files may be -, standard input. Lots and calls are at most 32 each.
 
 Exit status: {FULL} placed in full (other commands: done), {SHORT} placed short, {REFUSED} refused or bad input."""
 
@@ -70,9 +71,9 @@ def _place(options: argparse.Namespace) -> int:
         placing = run_order(problem.book, order, problem.amounts)
     else:
         placing = told(options.files[0], find_and_run, problem.book, problem.amounts)
-    _write(options.output, _units(problem, placing))
     if options.flow:
         Path(options.flow).write_bytes(words(units for row in placing.flow for units in row))
+    _write(options.output, _units(problem, placing))
     print(f"{'full' if placing.full else 'short'}: {placing.units} units, cost {placing.cost}", file=sys.stderr)
     return FULL if placing.full else SHORT
 

@@ -121,7 +121,8 @@ def find_order(book: BytesLike, buffer: Optional[Writable] = None) -> bytes:
 
     Args:
         book: the book file.
-        buffer: bytes to write the order file into as well; those after the file keep their contents. By default none.
+        buffer: bytes to write the order file into as well, apart from the book; those after the file keep their contents.
+            By default none.
 
     Returns:
         The order file.
@@ -135,7 +136,9 @@ def find_order(book: BytesLike, buffer: Optional[Writable] = None) -> bytes:
         [(0, 1), (0, 0), (1, 0), (1, 1)]
     """
     lent = _library.lend_items(bytearray(ORDER_MAX) if buffer is None else buffer, 1)
-    length = _library.call("find_order", _library.lend(book), lent)[1][0]
+    file = _library.lend(book)
+    _library.apart(lent, file)
+    length = _library.call("find_order", file, lent)[1][0]
     return bytes(lent[0][:length])
 
 
@@ -143,6 +146,7 @@ def _placing(name: str, flow: Optional[Writable], book: BytesLike, *files: Bytes
     """Call a run, and return its placing; the flow goes to the lent buffer, or to one of our own."""
     lent = _library.lend_items((ctypes.c_uint32 * FLOW_MAX)() if flow is None else flow, 4)
     slices: Sequence[Tuple[Any, int]] = [_library.lend(data) for data in (book, *files)]
+    _library.apart(lent, *slices)
     verdict, values = _library.call(name, *slices, lent)
     lots, calls = slices[0][0][5:7]
     units = memoryview(lent[0]).cast("B").cast("I")

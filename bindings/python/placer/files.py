@@ -19,7 +19,16 @@ def words(numbers: Iterable[int]) -> bytes:
     try:
         return struct.pack(f"<{len(whole)}I", *whole)
     except struct.error:
-        raise ValueError("costs and amounts are 0 to 4,294,967,295 in the files") from None
+        outside = next(number for number in whole if not 0 <= number < 2**32)
+        raise ValueError(f"{outside} is outside the limits: costs are 0 to 1,000,000, amounts 0 to 1,000,000,000") from None
+
+
+def _small(numbers: Iterable[int]) -> bytes:
+    """Return the bytes of 8-bit numbers."""
+    whole = [operator.index(number) for number in numbers]
+    if not all(0 <= number < 256 for number in whole):
+        raise ValueError("counts, lot numbers and call numbers are 0 to 255 in the files")
+    return bytes(whole)
 
 
 def book_bytes(costs: Costs) -> bytes:
@@ -40,7 +49,7 @@ def book_bytes(costs: Costs) -> bytes:
         '434c42 01000202 03000000 01000000 02000000 03000000 03000000 05000000'
     """
     calls = len(costs[0]) if costs else 0
-    parts = [_opening(b"CLB", bytes([len(costs), calls]))]
+    parts = [_opening(b"CLB", _small([len(costs), calls]))]
     for lot, row in enumerate(costs):
         if len(row) != calls:
             raise ValueError(f"lot {lot} has {len(row)} costs, lot 0 has {calls}")
@@ -66,7 +75,7 @@ def order_bytes(pairs: Iterable[Tuple[int, int]]) -> bytes:
         >>> order_bytes([(0, 1), (0, 0), (1, 0), (1, 1)]).hex(" ")
         '43 4c 4f 01 00 04 00 00 01 00 00 01 00 01 01'
     """
-    flat = bytes(number for lot, call in pairs for number in (lot, call))
+    flat = _small(number for lot, call in pairs for number in (lot, call))
     if len(flat) > 2 * 65535:
         raise ValueError("an order file holds at most 65,535 pairs")
     return _opening(b"CLO", struct.pack("<H", len(flat) // 2)) + flat
@@ -90,4 +99,4 @@ def amounts_bytes(lots: Sequence[int], calls: Sequence[int]) -> bytes:
         >>> amounts_bytes([5, 4], [3, 6]).hex(" ", 4)
         '434c41 01000202 05000000 04000000 03000000 06000000'
     """
-    return _opening(b"CLA", bytes([len(lots), len(calls)])) + words([*lots, *calls])
+    return _opening(b"CLA", _small([len(lots), len(calls)])) + words([*lots, *calls])

@@ -17,7 +17,7 @@ def numbers(data: bytes) -> List[int]:
 
 def _opened(data: BytesLike, mark: bytes) -> bytes:
     """Return the bytes of a file that opens with a mark and version 1."""
-    file = bytes(data)
+    file = memoryview(data).tobytes()
     if len(file) < 7:
         raise Refused(Cause.UNDER_SEVEN)
     if file[:3] != mark:
@@ -46,7 +46,7 @@ def book_costs(book: BytesLike) -> List[List[Optional[int]]]:
         [[1, None], [None, 5]]
     """
     lots, calls = read_book(book)
-    file = bytes(book)
+    file = memoryview(book).tobytes()
     rows: List[List[Optional[int]]] = []
     at = 7
     for _ in range(lots):

@@ -31,7 +31,7 @@ class Cause(enum.IntEnum):
 # A sentence has one gap for each value that the table returns.
 _SENTENCES = {
     Cause.UNDER_SEVEN: "the file has under 7 bytes",
-    Cause.MARK_DIFFERS: "the file's mark differs",
+    Cause.MARK_DIFFERS: "the file does not open with its mark (a book with CLB, an order with CLO, amounts with CLA)",
     Cause.VERSION_NOT_ONE: "the file's version is not 1",
     Cause.COUNT_OUTSIDE: "the book's count of lots or calls is 0 or above 32",
     Cause.BIT_OUTSIDE: "lot {} is marked eligible for a call that the book does not have",

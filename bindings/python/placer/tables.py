@@ -46,9 +46,12 @@ def told(path: str, call: Callable[..., Any], *arguments: Any) -> Any:
 
 
 def contents(path: str) -> bytes:
-    """Return the bytes of a file, or of standard input for "-"."""
+    """Return the bytes of a file, or of standard input for "-", which is closed by it."""
     if path == "-":
-        return sys.stdin.buffer.read()
+        if sys.stdin.closed:
+            raise BadInput(path, None, "can be read once only")
+        with sys.stdin as stream:
+            return stream.buffer.read()
     try:
         with open(path, "rb") as file:
             return file.read()
@@ -125,6 +128,4 @@ def _from_files(book: str, amounts: str) -> Problem:
 
 def load(paths: Sequence[str]) -> Problem:
     """Return the problem of three CSV tables (pairs, lots, calls) or of two files (book, amounts)."""
-    if list(paths).count("-") > 1:
-        raise BadInput("-", None, "can be read once only")
     return _from_tables(*paths) if len(paths) == 3 else _from_files(*paths)

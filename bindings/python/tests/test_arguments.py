@@ -58,13 +58,22 @@ class Arguments(Case):
 
     def test_buffers(self):
         """A buffer to write is writable, contiguous and of the right items."""
-        for bad in (bytes(16), bytearray(16), array("Q", [0] * 4), memoryview(array("I", [0] * 8))[::2]):
+        for bad in (bytes(16), bytearray(16), array("Q", [0] * 4), array("f", [0] * 4), memoryview(array("I", [0] * 8))[::2]):
             self.assertRaises(TypeError, placer.find_and_run, BOOK, AMOUNTS, bad)
         for bad in (bytes(2055), array("I", [0] * 600)):
             self.assertRaises(TypeError, placer.find_order, BOOK, bad)
         flow = memoryview(bytearray(16)).cast("I")
         placer.find_and_run(BOOK, AMOUNTS, flow)
         self.assertEqual(flow.tolist(), [0, 5, 3, 1])
+
+    def test_overlap(self):
+        """A buffer to write that shares memory with a file is an error, and the file is as it was."""
+        room = bytearray(BOOK + bytes(-len(BOOK) % 4) + bytes(16))
+        flow, book = memoryview(room).cast("I"), memoryview(room)[: len(BOOK)]
+        self.assertRaises(ValueError, placer.find_and_run, book, AMOUNTS, flow)
+        self.assertRaises(ValueError, placer.find_order, book, room)
+        self.assertEqual(bytes(book), BOOK)
+        self.assertEqual(placer.find_and_run(book, AMOUNTS, flow[len(flow) - 4 :]).cost, 24)
 
     def test_lists(self):
         """The makers of files take whole numbers that fit."""

@@ -113,9 +113,11 @@ class Command(Case):
             ("amounts.cla: refused 15:", ["check", "none.clb", "amounts.cla"]),
             ("pairs.csv: neither a book", ["show", "pairs.csv"]),
             ("pairs.csv: a flow of this book has 16 bytes", ["show", "pairs.csv", "--book", "book.clb"]),
-            ("standard input: can be read once", ["place", "-", "-"]),
+            ("standard input: can be read once", ["place", "-", "-", "-"]),
+            ("standard input: can be read once", ["place", "--order", "-", "-", "amounts.cla"]),
+            ("standard input: can be read once", ["check", "-", "-"]),
         ]:
-            status, out, message = self.run_it(*arguments)
+            status, out, message = self.run_it(*arguments, stdin=LOTS.encode() if arguments.count("-") == 3 else BOOK)
             self.assertEqual((status, out), (2, ""))
             self.assertTrue(message.startswith(f"placer: {start}"), message)
         self.assertFalse(os.path.exists("order.clo"))
