@@ -1,5 +1,6 @@
 -- The refusals, computed from the definitions: each number of the table on an input that shows it, and on an input that shows two, the
--- one that document 01 puts first. F12 to F14 are among them.
+-- one that document 01 puts first. F12 to F14 are among them. Files are checked by their names, so a changed definition is refused here,
+-- by a number, before any proof about it is looked at.
 use mathlib.Core.Path.{_≡_, refl}
 use mathlib.Core.List.{List, [], _∷_, _++_}
 use Prim.Native.Nat.{ℕ}
@@ -89,6 +90,9 @@ book-refusals = record {
 }
 
 pub record OtherRefusals : Type 0 where
+  -- the book before an order or amounts
+  pub book-before-order : checkOrder (book 0 1 []) [] ≡ refuses 4 []
+  pub book-before-amounts : readAmounts (book 0 1 []) [] ≡ refuses 4 []
   -- an order: 6 and 8 before 9; then 9 and 10 by place; then 14; then 11 or 12
   pub order-ends-early : checkOrder book1235 (take 8 (orderFile (pair 9 9 ∷ []))) ≡ refuses 6 []
   pub order-bytes-after : checkOrder book1235 (orderFile (pair 9 9 ∷ []) ++ (0 ∷ [])) ≡ refuses 8 []
@@ -127,6 +131,8 @@ other-refusals =
     unfold checkPairs checkQuadruple inTurn checkMonge checkOrder tabulate flowOf sum times giveAll every first takeFrom ones onesIn in
     unfold runOrder runFlow foundOrder findOrder findBuffer foundToRun findAndRun findAndRunFlow digits line textOf printed in
     record {
+      book-before-order = refl;
+      book-before-amounts = refl;
       order-ends-early = refl;
       order-bytes-after = refl;
       call-outside = refl;
