@@ -47,6 +47,15 @@ fn kept_from(order: &[u8], from: usize) -> u64 {
     kept
 }
 
+// The mark, the version and the count of pairs.
+fn show_opening(order: &[u8]) {
+    show_number(files::u8_at(order, 0) as u64);
+    show_number(files::u8_at(order, 1) as u64);
+    show_number(files::u8_at(order, 2) as u64);
+    show_number(files::u16_at(order, 3) as u64);
+    show_number(files::u16_at(order, 5) as u64);
+}
+
 fn show_kept(order: &[u8], from: usize) {
     io::write_all(1, b" kept");
     show_number(kept_from(order, from));
@@ -60,11 +69,7 @@ fn show(label: &[u8], book: &[u8], order: &mut [u8]) {
     match found {
         Found::Length(n) => {
             show_number(n as u64);
-            show_number(files::u8_at(order, 0) as u64);
-            show_number(files::u8_at(order, 1) as u64);
-            show_number(files::u8_at(order, 2) as u64);
-            show_number(files::u16_at(order, 3) as u64);
-            show_number(files::u16_at(order, 5) as u64);
+            show_opening(order);
             show_pairs(order);
             show_kept(order, n);
         }
@@ -122,58 +127,73 @@ fn long_search() -> [u8; 4231] {
     book
 }
 
+// costs 1 2 / 3 5
+const F1: [u8; 31] =
+    *b"CLB\x01\0\x02\x02\x03\0\0\0\x01\0\0\0\x02\0\0\0\x03\0\0\0\x03\0\0\0\x05\0\0\0";
+
+// costs 0, (1, 1) not eligible
+const F7: [u8; 27] = *b"CLB\x01\0\x02\x02\x03\0\0\0\0\0\0\0\0\0\0\0\x01\0\0\0\0\0\0\0";
+
+// 3 by 3, costs 0, the diagonal not eligible
+const F9: [u8; 43] =
+    *b"CLB\x01\0\x03\x03\x06\0\0\0\0\0\0\0\0\0\0\0\x05\0\0\0\0\0\0\0\0\0\0\0\x03\0\0\0\0\0\0\0\0\0\0\0";
+
+// 1 by 1, not eligible
+const F10: [u8; 11] = *b"CLB\x01\0\x01\x01\0\0\0\0";
+
+// 0 0 0 / 0 1 1 / - - 0: (1, 0) is free with (0, 1) taken, since the fourth pair has only to be eligible
+const FOURTH_TAKEN: [u8; 47] =
+    *b"CLB\x01\0\x03\x03\x07\0\0\0\0\0\0\0\0\0\0\0\0\0\0\0\x07\0\0\0\0\0\0\0\x01\0\0\0\x01\0\0\0\x04\0\0\0\0\0\0\0";
+
+// one pair, tested against itself
+const ONE_PAIR: [u8; 15] = *b"CLB\x01\0\x01\x01\x01\0\0\0\x05\0\0\0";
+
+// 1 0 / 0 0 / 2 0: (0, 0) becomes free by the taking of (1, 0)
+const FREED: [u8; 43] =
+    *b"CLB\x01\0\x03\x02\x03\0\0\0\x01\0\0\0\0\0\0\0\x03\0\0\0\0\0\0\0\0\0\0\0\x03\0\0\0\x02\0\0\0\0\0\0\0";
+
+const NO_PAIRS: [u8; 15] = *b"CLB\x01\0\x02\x03\0\0\0\0\0\0\0\0";
+
+fn show_examples() {
+    show_in(b"F1", &F1, 40);
+    show_in(b"F7", &F7, 40);
+    show_in(b"F9", &F9, 19);
+    show_in(b"F10", &F10, 7);
+}
+
+// Too short comes before no order, and nothing is written where there is no order.
+fn show_no_order() {
+    show_in(b"P48", &F9, 18);
+    show_in(b"P48", &F9, 19);
+    show_in(b"P49", &F9, 40);
+}
+
+fn show_free_pairs() {
+    show_in(b"P50", &FOURTH_TAKEN, 40);
+    show_in(b"P51", &ONE_PAIR, 40);
+    show_in(b"P52", &FREED, 40);
+}
+
+// The reply is the length; a buffer of that length is long enough, one byte less is not.
+fn show_lengths() {
+    show_in(b"P53", &F1, 15);
+    show_in(b"P53", &F1, 14);
+    show_in(b"P54", &NO_PAIRS, 40);
+}
+
+// Each search starts anew.
+fn show_anew() {
+    show_in(b"P56", &F9, 40);
+    show_in(b"P56", &F1, 40);
+    show_in(b"P56", &F7, 40);
+}
+
 fn main() {
-    // costs 1 2 / 3 5
-    let f1 =
-        b"CLB\x01\x00\x02\x02\x03\x00\x00\x00\x01\x00\x00\x00\x02\x00\x00\x00\x03\x00\x00\x00\x03\x00\x00\x00\x05\x00\x00\x00";
-    // costs 0, (1, 1) not eligible
-    let f7 =
-        b"CLB\x01\x00\x02\x02\x03\x00\x00\x00\x00\x00\x00\x00\x00\x00\x00\x00\x01\x00\x00\x00\x00\x00\x00\x00";
-    // 3 by 3, costs 0, the diagonal not eligible
-    let f9 =
-        b"CLB\x01\x00\x03\x03\x06\x00\x00\x00\x00\x00\x00\x00\x00\x00\x00\x00\x05\x00\x00\x00\x00\x00\x00\x00\x00\x00\x00\x00\x03\x00\x00\x00\x00\x00\x00\x00\x00\x00\x00\x00";
-    // 1 by 1, not eligible
-    let f10 = b"CLB\x01\x00\x01\x01\x00\x00\x00\x00";
-    show_in(b"F1", f1, 40);
-    show_in(b"F7", f7, 40);
-    show_in(b"F9", f9, 19);
-    show_in(b"F10", f10, 7);
-    // too short comes before no order
-    show_in(b"P48", f9, 18);
-    show_in(b"P48", f9, 19);
-    // nothing is written where there is no order
-    show_in(b"P49", f9, 40);
-    // 0 0 0 / 0 1 1 / - - 0: (1, 0) is free with (0, 1) taken, since the fourth pair has only to be eligible
-    show_in(
-        b"P50",
-        b"CLB\x01\x00\x03\x03\x07\x00\x00\x00\x00\x00\x00\x00\x00\x00\x00\x00\x00\x00\x00\x00\x07\x00\x00\x00\x00\x00\x00\x00\x01\x00\x00\x00\x01\x00\x00\x00\x04\x00\x00\x00\x00\x00\x00\x00",
-        40,
-    );
-    // one pair, tested against itself
-    show_in(
-        b"P51",
-        b"CLB\x01\x00\x01\x01\x01\x00\x00\x00\x05\x00\x00\x00",
-        40,
-    );
-    // 1 0 / 0 0 / 2 0: (0, 0) becomes free by the taking of (1, 0)
-    show_in(
-        b"P52",
-        b"CLB\x01\x00\x03\x02\x03\x00\x00\x00\x01\x00\x00\x00\x00\x00\x00\x00\x03\x00\x00\x00\x00\x00\x00\x00\x00\x00\x00\x00\x03\x00\x00\x00\x02\x00\x00\x00\x00\x00\x00\x00",
-        40,
-    );
-    // the reply is the length; a buffer of that length is long enough, one byte less is not
-    show_in(b"P53", f1, 15);
-    show_in(b"P53", f1, 14);
-    // no pairs at all
-    show_in(
-        b"P54",
-        b"CLB\x01\x00\x02\x03\x00\x00\x00\x00\x00\x00\x00\x00",
-        40,
-    );
-    // each search starts anew
-    show_in(b"P56", f9, 40);
-    show_in(b"P56", f1, 40);
-    show_in(b"P56", f7, 40);
+    show_examples();
+    show_no_order();
+    show_free_pairs();
+    show_lengths();
+    show_anew();
     let mut order = [170u8; 2060];
     show(b"P57", &long_search(), &mut order);
 }
