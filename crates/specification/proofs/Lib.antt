@@ -1,5 +1,5 @@
 -- What is proved of document 01's definitions: what each reply means, and the demands.
-pub mod AllRefusals
+pub mod AllCases
 pub mod Replies
 pub mod Numbers
 pub mod Bits

@@ -1,6 +1,6 @@
--- The refusals, computed from the definitions: each number of the table on an input that shows it, and on an input that shows two, the
--- one that document 01 puts first. F12 to F14 are among them. Files are checked by their names, so a changed definition is refused here,
--- by a number, before any proof about it is looked at.
+-- Cases computed from the definitions: each number of the table on an input that shows it, and on an input that shows two, the one that
+-- document 01 puts first; what is kept, the marks, and printed texts. F12 to F14 are among them. Files are checked by their names, so a
+-- changed definition is refused here, by a number, before any proof about it is looked at.
 use mathlib.Core.Path.{_≡_, refl}
 use mathlib.Core.List.{List, [], _∷_, _++_}
 use Prim.Native.Nat.{ℕ}
@@ -18,7 +18,7 @@ use Rattle.specification.specs.Check.{checkPairs, checkQuadruple, inTurn
 use Rattle.specification.specs.Amounts.{readAmountsOf, readAmounts}
 use Rattle.specification.specs.Run.{tabulate, flowOf, runOrder, runFlow}
 use Rattle.specification.specs.Find.{foundOrder, findOrder, findBuffer, foundToRun, findAndRun, findAndRunFlow}
-use Rattle.specification.specs.Text.{digits, line, textOf, printed}
+use Rattle.specification.specs.Text.{digits, line, pairLines, textOf, printed}
 use Rattle.specification.specs.Examples.{words, book, amounts, pair, book1235, amounts5436, bookGap, bookDiagonal}
 
 -- 1,000,000 and 1,000,001 as costs, 1,000,000,000 and 1,000,000,001 as amounts
@@ -45,7 +45,7 @@ singles amount = amounts 1 1 [] ++ (amount ++ amount)
 abbrev byRows : List Pair
 byRows = pair 0 0 ∷ pair 0 1 ∷ pair 1 0 ∷ pair 1 1 ∷ []
 
-pub record BookRefusals : Type 0 where
+pub record BookCases : Type 0 where
   -- 1 before 2, 2 before 3, 3 before 4: the version is both bytes
   pub under-seven : readBook (88 ∷ []) ≡ refuses 1 []
   pub mark-differs : readBook (amountsMark ++ (2 ∷ 0 ∷ 1 ∷ 1 ∷ [])) ≡ refuses 2 []
@@ -68,9 +68,9 @@ pub record BookRefusals : Type 0 where
   pub costs-of-lot-2 : lotCosts book1235 2 ≡ []
   pub costs-of-refused : lotCosts (book1235 ++ (0 ∷ [])) 1 ≡ []
 
-pub book-refusals : BookRefusals
+pub book-cases : BookCases
 unfolding u16At u32At readOpening readCosts readRow readRows readBook rowAt lotCosts ones onesIn
-book-refusals = record {
+book-cases = record {
   under-seven = refl;
   mark-differs = refl;
   version-not-one = refl;
@@ -89,7 +89,7 @@ book-refusals = record {
   costs-of-refused = refl;
 }
 
-pub record OtherRefusals : Type 0 where
+pub record OtherCases : Type 0 where
   -- the book before an order or amounts
   pub book-before-order : checkOrder (book 0 1 []) [] ≡ refuses 4 []
   pub book-before-amounts : readAmounts (book 0 1 []) [] ≡ refuses 4 []
@@ -122,14 +122,34 @@ pub record OtherRefusals : Type 0 where
   -- F12
   pub largest : findAndRun (single highestCost) (singles highestAmount) (0 ∷ [])
       ≡ gives (record { verdict = full; units = 1000000000; cost = 1000000000000000 })
+  -- the marks: CLB, CLA, CLO
+  pub book-mark : take 3 book1235 ≡ 67 ∷ 76 ∷ 66 ∷ []
+  pub amounts-mark : take 3 amounts5436 ≡ 67 ∷ 76 ∷ 65 ∷ []
+  pub order-mark : take 3 (orderFile []) ≡ 67 ∷ 76 ∷ 79 ∷ []
   -- the printed refusal is its number alone: REFUSED 5
   pub printed-refusal : printed (book 1 2 (4 ∷ [])) [] ≡ 82 ∷ 69 ∷ 70 ∷ 85 ∷ 83 ∷ 69 ∷ 68 ∷ 32 ∷ 53 ∷ 10 ∷ []
+  -- SHORT 111 0, lots 0 and 1 with call 0; FULL 5 0, lot 0 with calls 0 and 1
+  pub printed-short : printed (book 2 1 (1 ∷ 0 ∷ 1 ∷ 0 ∷ [])) (amounts 2 1 (100 ∷ 11 ∷ 120 ∷ []))
+      ≡ 83 ∷ 72 ∷ 79 ∷ 82 ∷ 84 ∷ 32 ∷ 49 ∷ 49 ∷ 49 ∷ 32 ∷ 48 ∷ 10
+      ∷ 48 ∷ 32 ∷ 48 ∷ 32 ∷ 49 ∷ 48 ∷ 48 ∷ 10
+      ∷ 49 ∷ 32 ∷ 48 ∷ 32 ∷ 49 ∷ 49 ∷ 10
+      ∷ []
+  pub printed-in-two-columns : printed (book 1 2 (3 ∷ 0 ∷ 0 ∷ [])) (amounts 1 2 (5 ∷ 2 ∷ 3 ∷ []))
+      ≡ 70 ∷ 85 ∷ 76 ∷ 76 ∷ 32 ∷ 53 ∷ 32 ∷ 48 ∷ 10
+      ∷ 48 ∷ 32 ∷ 48 ∷ 32 ∷ 50 ∷ 10
+      ∷ 48 ∷ 32 ∷ 49 ∷ 32 ∷ 51 ∷ 10
+      ∷ []
+  -- F12: FULL 1000000000 1000000000000000
+  pub printed-largest : printed (single highestCost) (singles highestAmount)
+      ≡ 70 ∷ 85 ∷ 76 ∷ 76 ∷ 32 ∷ 49 ∷ 48 ∷ 48 ∷ 48 ∷ 48 ∷ 48 ∷ 48 ∷ 48 ∷ 48 ∷ 48 ∷ 32 ∷ 49 ∷ 48 ∷ 48 ∷ 48 ∷ 48 ∷ 48 ∷ 48 ∷ 48 ∷ 48 ∷ 48 ∷ 48 ∷ 48 ∷ 48 ∷ 48 ∷ 48 ∷ 48 ∷ 10
+      ∷ 48 ∷ 32 ∷ 48 ∷ 32 ∷ 49 ∷ 48 ∷ 48 ∷ 48 ∷ 48 ∷ 48 ∷ 48 ∷ 48 ∷ 48 ∷ 48 ∷ 10
+      ∷ []
 
-pub other-refusals : OtherRefusals
+pub other-cases : OtherCases
 unfolding u16At u32At readOpening readCosts readRow readRows readBook rowAt problemOf readAmountsOf readAmounts pairs pairBytes
-other-refusals =
+other-cases =
     unfold checkPairs checkQuadruple inTurn checkMonge checkOrder tabulate flowOf sum times giveAll every first takeFrom ones onesIn in
-    unfold runOrder runFlow foundOrder findOrder findBuffer foundToRun findAndRun findAndRunFlow digits line textOf printed in
+    unfold runOrder runFlow foundOrder findOrder findBuffer foundToRun findAndRun findAndRunFlow digits line pairLines textOf printed in
     record {
       book-before-order = refl;
       book-before-amounts = refl;
@@ -154,5 +174,11 @@ other-refusals =
       no-order = refl;
       one-by-two = refl;
       largest = refl;
+      book-mark = refl;
+      amounts-mark = refl;
+      order-mark = refl;
       printed-refusal = refl;
+      printed-short = refl;
+      printed-in-two-columns = refl;
+      printed-largest = refl;
     }
