@@ -33,7 +33,7 @@ use Rattle.specification.proofs.Replies.{
 }
 use Rattle.specification.proofs.Books.{book-says, book-reads, book-limits}
 use Rattle.specification.proofs.AmountsFiles.{amounts-say, amounts-read, amounts-within}
-use Rattle.specification.proofs.LotCosts.{lot-cost-at}
+use Rattle.specification.proofs.LotCosts.{lot-costs-length, lot-cost-at}
 use Rattle.specification.proofs.Lines.{book-in-table, amounts-in-table}
 use Rattle.specification.proofs.Checks.{check-says, check-in-table, check-passes, check-passes-only}
 use Rattle.specification.proofs.OrderFiles.{count-back, order-back, order-file-shaped}
@@ -89,6 +89,7 @@ pub demand2 : Demand2
 demand2 = record {
   book-limits = book-limits;
   lot-costs = λ book n e i j (inside, _, admitted). lot-cost-at book n e i inside j admitted;
+  lot-costs-length = lot-costs-length;
   amounts-limits = λ book amounts n e.
       let (book-is, read) = amounts-read book amounts n e in
       (book-reads book n book-is, amounts-within book-is read);

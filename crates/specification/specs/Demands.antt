@@ -109,6 +109,9 @@ pub record Demand2 : Type 0 where
   -- "The costs of a lot are handed back as that stretch" (document 01): the cost of (i, j) stands behind those of the lower set bits
   pub lot-costs : (book : List ℕ) (n : Size) → readBook book ≡ gives n → (i j : ℕ) → Eligible (problemOf book) i j
       → u32At (lotCosts book i) (4 * ones (rowWord (rowAt book i) % 2 ^ j)) ≡ problemOf book .cost i j
+  -- "The number of set bits tells how many costs the lot has" (document 01)
+  pub lot-costs-length : (book : List ℕ) (n : Size) → readBook book ≡ gives n → (i : ℕ) → i < problemOf book .lots
+      → length (lotCosts book i) ≡ 4 * ones (rowWord (rowAt book i))
   -- amounts that are read have n and m of their book and are within the limits
   pub amounts-limits : (book amounts : List ℕ) (n : Size) → readAmounts book amounts ≡ gives n
       → (readBook book ≡ gives n) × Within amountLimit (problemOf book) (lotAmount amounts) (callAmount book amounts)
