@@ -6,7 +6,7 @@ use Prim.Native.Nat.{ℕ}
 use Rattle.specification.specs.Reply.{Reply, gives, refuses, Size}
 use Rattle.specification.specs.Book.{bookLots, bookCalls, readBook}
 use Rattle.specification.proofs.Books.{BookRead, book-read}
-use Rattle.book.specs.Pairs.{given, readable}
+use Rattle.book.specs.Pairs.{notRefused, readable}
 
 pub record Read (book : List ℕ) (lots calls : ℕ) : Type 0 where
   pub lots-is : lots ≡ bookLots book
@@ -20,13 +20,13 @@ counts-are book {n} {m} e =
     record {
       lots-is = ap (λ (z : Size). z .lots) (known .sizes);
       calls-is = ap (λ (z : Size). z .calls) (known .sizes);
-      is-readable = sym (ap given e);
+      is-readable = sym (ap notRefused e);
       known = known;
     }
 
 pub readable-is : (book : List ℕ) → readable book ≡ true → (n : Size) × BookRead book n
 readable-is book e = go (readBook book) refl e
   where
-    go : (r : Reply Size) → readBook book ≡ r → given r ≡ true → (n : Size) × BookRead book n
+    go : (r : Reply Size) → readBook book ≡ r → notRefused r ≡ true → (n : Size) × BookRead book n
     go (gives n) q e = (n, book-read book n q)
     go (refuses k vs) q e = absurd (true≢false (sym e))

@@ -28,13 +28,13 @@ pairCost book i j = readBook book >>= λ size. gives (
     outside)
 
 -- the reply is no refusal
-abbrev pub given : {A : Type 0} → Reply A → Bool
-given (gives a) = true
-given (refuses k vs) = false
+abbrev pub notRefused : {A : Type 0} → Reply A → Bool
+notRefused (gives a) = true
+notRefused (refuses k vs) = false
 
 -- none of the refusals listed for a book applies
 abbrev pub readable : List ℕ → Bool
-readable book = given (readBook book)
+readable book = notRefused (readBook book)
 
 -- the book is readable and the pair eligible
 abbrev pub hasCost : List ℕ → ℕ → ℕ → Bool

@@ -1,22 +1,18 @@
 -- What a table's entry says of a pair, and what that makes of the test of a quadruple.
 use mathlib.Core.Path.{_≡_, sym, subst}
-use mathlib.Core.Logic.{by-cases}
 use mathlib.Core.Bool.{true, false, not, _&&_, and-false}
 use mathlib.Core.List.{List, [], _∷_}
 use Prim.Native.Nat.{ℕ, _+_, _*_, _≤_, _<_}
-use native.Mathlib.Decide.{decLt}
 use native.Mathlib.Omega.{arith}
 use borrow.Author.Tests.{lt-ltb, le-ltb, eq-eqb, ne-eqb}
 use lib.Dec.{T, T-not, ltb, eqb, ltb→lt}
-use Rattle.transport.proofs.Laws.Tests.{T?, T-true, T-false, and-says}
+use Rattle.transport.proofs.Laws.Tests.{T-true, and-says}
 use Rattle.transport.specs.Problem.{Problem, Eligible}
 use Rattle.transport.specs.Greedy.{Pair}
-use Rattle.transport.proofs.Orders.Monge.{Fits}
 use Rattle.transport.proofs.Finder.Gaps.{Bounded}
 use Rattle.specification.specs.Reply.{gives, refuses}
 use Rattle.specification.specs.Book.{costLimit}
 use Rattle.specification.specs.Check.{checkQuadruple}
-use Rattle.specification.proofs.Replies.{not-both}
 use Rattle.book.specs.Table.{entry, admitsBy, problemBy, Tabled}
 
 module _ (book table : List ℕ) (n m : ℕ) (k l : ℕ) where
@@ -64,11 +60,3 @@ module _ (P : Problem) (p : Pair) (k l : ℕ) where
       → gives tt ≡ checkQuadruple P p k l
   unfolding checkQuadruple
   quadruple-holds e h = simp (e, le-ltb _ _ h)
-
-  -- where it is not refused, the condition holds
-  pub quadruple-fits : checkQuadruple P p k l ≡ gives tt → Fits P (p .lot) (p .call) k l
-  quadruple-fits e = by-cases (T? (P .admits k l))
-      (λ kl. by-cases (decLt (P .cost (p .lot) l + P .cost k (p .call)) (P .cost (p .lot) (p .call) + P .cost k l))
-      (λ high. absurd (not-both e (sym (quadruple-too-high (T-true (P .admits k l) kl) high))))
-      (λ low. record { admitted = kl; no-dearer = omega arith }))
-      (λ never. absurd (not-both e (sym (quadruple-not-eligible (T-false (P .admits k l) never)))))

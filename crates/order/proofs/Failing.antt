@@ -7,33 +7,35 @@ use mathlib.Core.Bool.{Bool, true, cond, _&&_}
 use mathlib.Core.List.{List, _∷_}
 use Prim.Native.Nat.{ℕ, zero, suc, _+_, _-_, _≤_, _<_}
 use native.Mathlib.Omega.{arith}
-use lib.Dec.{T, ltb, ltb→lt, lt→ltb}
-use Rattle.transport.specs.Problem.{Problem}
-use Rattle.transport.specs.Greedy.{Pair}
+use lib.Dec.{T, ltb, ltb→lt}
+use Rattle.transport.specs.Problem.{Problem, Eligible}
+use Rattle.transport.specs.Greedy.{Pair, pair}
 use Rattle.transport.specs.Order.{times}
 use Rattle.transport.specs.Finder.{free}
-use Rattle.transport.proofs.Laws.Tests.{T?, T-true, T-false, and-says, and-of}
+use Rattle.transport.proofs.Laws.Tests.{T?, T-true, T-false, and-says}
 use Rattle.transport.proofs.Orders.Lists.{Lists, lists-head, lists-tail}
 use Rattle.transport.proofs.Orders.Monge.{Fits}
 use Rattle.transport.proofs.Finder.Free.{free-says, free-of}
 use Rattle.transport.proofs.Finder.Standing.{standing, free-iff-after}
 use Rattle.specification.specs.Reply.{Reply, gives, _>>=_}
 use Rattle.specification.specs.Check.{bothIn, checkQuadruple, inTurn, checkMonge}
+use Rattle.specification.proofs.Crossing.{pair-holds}
 use Rattle.files.specs.Files.{statedStep}
 use Rattle.files.specs.declared.Step.{Step}
 use Rattle.files.specs.declared.Step.the-variants.{Passes, Refused}
 use Rattle.book.specs.Table.{entry, problemBy}
-use Rattle.order.specs.Places.{pairAt, rest, metAt, Shows}
+use Rattle.order.specs.Places.{orderPair, rest, metAt, Shows}
 use Rattle.order.specs.Answers.{freeAt, LowestNotFree, quadrupleAt}
-use Rattle.order.proofs.Eligibles.{quadruple-holds, quadruple-fits}
+use Rattle.order.proofs.Eligibles.{quadruple-holds}
 use Rattle.order.proofs.Placing.{rest-more, rest-none, met-later, lists-from}
-use Rattle.order.proofs.Scanning.{turn-gives, turn-given, turn-same}
+use Rattle.order.proofs.Scanning.{turn-gives, turn-same}
 
 -- all quadruples of the pair p, by the pairs S that stand after it
 abbrev pub quadruples : Problem → Pair → List Pair → Reply (Unit {0})
 quadruples P p S = inTurn (P .lots) 0 (λ k. inTurn (P .calls) 0 (λ l. cond (bothIn S p k l) (checkQuadruple P p k l) (gives tt)))
 
-module _ (P : Problem) (p : Pair) (S : List Pair) (lists : Lists P (p ∷ S)) where
+module _ (P : Problem) (inside : (i j : ℕ) → T (P .admits i j) → Eligible P i j) (p : Pair) (S : List Pair)
+    (lists : Lists P (p ∷ S)) where
   abbrev FitsAfter : Type 0
   FitsAfter = (k l : ℕ) → 0 < times (p .lot) l S → 0 < times k (p .call) S → Fits P (p .lot) (p .call) k l
 
@@ -50,10 +52,7 @@ module _ (P : Problem) (p : Pair) (S : List Pair) (lists : Lists P (p ∷ S)) wh
   fits-if-given : quadruples P p S ≡ gives tt → FitsAfter
   fits-if-given e k l il kj =
       let stand = lists-tail lists .eligible in
-      let both = and-of (ltb 0 (times (p .lot) l S)) (ltb 0 (times k (p .call) S)) (lt→ltb _ _ il) (lt→ltb _ _ kj) in
-      let of-lot = turn-given _ (P .lots) 0 e k (omega arith) (omega (arith, stand k (p .call) kj .0)) in
-      let of-call = turn-given _ (P .calls) 0 of-lot l (omega arith) (omega (arith, stand (p .lot) l il .1)) in
-      quadruple-fits P p k l (rw (T-true (bothIn S p k l) both) at of-call)
+      pair-holds P inside p S e k (stand k (p .call) kj .0) l (stand (p .lot) l il .1) il kj
 
   quadruples-exactly : (quadruples P p S ≡ gives tt) ↔ T (free P (standing (p ∷ S)) (p .lot) (p .call))
   quadruples-exactly =
@@ -64,13 +63,14 @@ module _ (P : Problem) (p : Pair) (S : List Pair) (lists : Lists P (p ∷ S)) wh
       )
 
 -- the places of an order in turn
-module _ (P : Problem) (order : List ℕ) (count : ℕ) (lists : Lists P (rest order count 0)) where
+module _ (P : Problem) (inside : (i j : ℕ) → T (P .admits i j) → Eligible P i j) (order : List ℕ) (count : ℕ)
+    (lists : Lists P (rest order count 0)) where
   abbrev at : ℕ → Reply (Unit {0})
-  at p = quadruples P (pairAt order p) (rest order count (p + 1))
+  at p = quadruples P (orderPair order p) (rest order count (p + 1))
 
   at-exactly : (p : ℕ) → p < count → (at p ≡ gives tt) ↔ T (freeAt P order count p)
   at-exactly p h = rw (rest-more order count p h)
-      (quadruples-exactly P (pairAt order p) (rest order count (p + 1)) (rw (rest-more order count p h) at
+      (quadruples-exactly P inside (orderPair order p) (rest order count (p + 1)) (rw (rest-more order count p h) at
       (lists-from order count P lists p (omega arith))))
 
   monge-step : (p : ℕ) → p < count → checkMonge P (rest order count p) ≡ (at p >>= λ _. checkMonge P (rest order count (p + 1)))
@@ -104,16 +104,16 @@ module _ (P : Problem) (order : List ℕ) (count : ℕ) (lists : Lists P (rest o
 -- the quadruples of the pair at a place, by the array of places
 module _ (book table places order : List ℕ) (count n m : ℕ) (few-lots : n ≤ 32) (few-calls : m ≤ 32)
     (shows : Shows 32 32 places (metAt order count)) (p : ℕ) (h : p < count)
-    (lot-in : pairAt order p .lot < n) (call-in : pairAt order p .call < m) where
+    (lot-in : orderPair order p .lot < n) (call-in : orderPair order p .call < m) where
   after-is : (i j : ℕ) → i < n → j < m → ltb (p + 1) (entry places i j) ≡ standing (rest order count (p + 1)) i j
   after-is i j hi hj =
       ap (ltb (p + 1)) (shows .at i j (omega arith) (omega arith))
       ∙ sym (met-later order count (count - (p + 1)) (p + 1) i j (omega arith))
 
-  pub quadruples-by-array : (i j : ℕ) → i ≡ pairAt order p .lot → j ≡ pairAt order p .call
-      → inTurn n 0 (λ k. inTurn m 0 (quadrupleAt book table places n m p (record { lot = i; call = j }) k))
-      ≡ quadruples (problemBy book table n m) (pairAt order p) (rest order count (p + 1))
+  pub quadruples-by-array : (i j : ℕ) → i ≡ orderPair order p .lot → j ≡ orderPair order p .call
+      → inTurn n 0 (λ k. inTurn m 0 (quadrupleAt book table places n m p (pair i j) k))
+      ≡ quadruples (problemBy book table n m) (orderPair order p) (rest order count (p + 1))
   quadruples-by-array i j lot-is call-is = rw (lot-is, call-is) (turn-same _ _ n 0 (λ k hk. turn-same _ _ m 0 (λ l hl.
-      ap₂ (λ (a b : Bool). cond (a && b) (checkQuadruple (problemBy book table n m) (pairAt order p) k l) (gives tt))
-      (after-is (pairAt order p .lot) l lot-in (omega arith))
-      (after-is k (pairAt order p .call) (omega arith) call-in))))
+      ap₂ (λ (a b : Bool). cond (a && b) (checkQuadruple (problemBy book table n m) (orderPair order p) k l) (gives tt))
+      (after-is (orderPair order p .lot) l lot-in (omega arith))
+      (after-is k (orderPair order p .call) (omega arith) call-in))))

@@ -5,7 +5,6 @@ pub mod Arrays
 pub mod Placing
 pub mod Replies
 pub mod Turns
-pub mod Every
 pub mod Lowering
 pub mod Walking
 pub mod Scanning

@@ -11,27 +11,27 @@ use borrow.Author.Tests.{lt-ltb, le-ltb, eq-eqb, ne-eqb}
 use lib.Dec.{ltb, leb, eqb, ltb→lt, lt→ltb}
 use lib.ListN.{set}
 use Rattle.transport.specs.Problem.{Problem}
-use Rattle.transport.specs.Greedy.{Pair, putPair}
+use Rattle.transport.specs.Greedy.{Pair, pair, putPair}
 use Rattle.transport.proofs.Laws.Tests.{T-ext, eqb-true}
 use Rattle.transport.proofs.Finder.Gaps.{gap}
 use Rattle.transport.proofs.Finder.Backward.{lowered}
 use Rattle.specification.specs.Book.{costLimit}
 use Rattle.book.specs.Table.{entry, problemBy}
-use Rattle.order.specs.Places.{gapBy, Shows}
-use Rattle.order.specs.Answers.{Lowered}
+use Rattle.order.specs.Places.{tableGap, Shows}
+use Rattle.order.specs.Answers.{GapLowered}
 use Rattle.order.proofs.Arrays.{shows-set, shows-same}
 
 -- what one lot's part of the turn answers
 module _ (book table places : List ℕ) (i j k place : ℕ) (least : List ℕ) (new low : ℕ)
-    (new-is : new ≡ gapBy book table i k j) (low-is : low ≡ min (entry least i k) new) where
+    (new-is : new ≡ tableGap book table i k j) (low-is : low ≡ min (entry least i k) new) where
   pub lowered-earlier : (r : Bool) → r ≡ true → entry places k j ≤ place
-      → Lowered book table places i j k place least r (set least (32 * i + k) low)
+      → GapLowered book table places i j k place least r (set least (32 * i + k) low)
   lowered-earlier r e h = record {
     lowers = ap (set least (32 * i + k)) (low-is ∙ ap (min (entry least i k)) new-is);
     says = rw (e, le-ltb place (entry places k j) h);
   }
 
-  pub lowered-tested : place < entry places k j → Lowered book table places i j k place least (leb new low) (set least (32 * i + k) low)
+  pub lowered-tested : place < entry places k j → GapLowered book table places i j k place least (leb new low) (set least (32 * i + k) low)
   lowered-tested h = record {
     lowers = ap (set least (32 * i + k)) (low-is ∙ ap (min (entry least i k)) new-is);
     says = rw (lt-ltb place (entry places k j) h, low-is, new-is);
@@ -39,7 +39,7 @@ module _ (book table places : List ℕ) (i j k place : ℕ) (least : List ℕ) (
 
 -- the table's gap is that of its problem
 pub gap-is : (book table : List ℕ) (n m i k j : ℕ) → k < n → j < m
-    → gapBy book table i k j ≡ gap (problemBy book table n m) costLimit i k j
+    → tableGap book table i k j ≡ gap (problemBy book table n m) costLimit i k j
 gap-is book table n m i k j hk hj = by-cases (ℕ-discrete (entry table k j) 0)
     (λ e. simp (eq-eqb (entry table k j) 0 e, and-false))
     (λ h. simp (ne-eqb (entry table k j) 0 h, lt-ltb k n hk, lt-ltb j m hj))
@@ -51,7 +51,7 @@ loweredTo P gaps p k a b = cond (eqb a (p .lot) && ltb b k) (min (gaps a b) (gap
 -- and once the one over lot k is lowered too
 abbrev stepped : Problem → (ℕ → ℕ → ℕ) → Pair → ℕ → ℕ → ℕ → ℕ
 stepped P gaps p k =
-    putPair (loweredTo P gaps p k) (record { lot = p .lot; call = k }) (min (gaps (p .lot) k) (gap P costLimit (p .lot) k (p .call)))
+    putPair (loweredTo P gaps p k) (pair (p .lot) k) (min (gaps (p .lot) k) (gap P costLimit (p .lot) k (p .call)))
 
 -- f below k and at k is f below k + 1
 below-and-at : (f g : ℕ → ℕ) (k b : ℕ) → cond (eqb b k) (f k) (cond (ltb b k) (f b) (g b)) ≡ cond (ltb b (k + 1)) (f b) (g b)
@@ -86,16 +86,16 @@ module _ (P : Problem) (gaps : ℕ → ℕ → ℕ) (p : Pair) where
 -- one lot's part of the turn, among n lots
 module _ (book table places : List ℕ) (n m : ℕ) (few : n ≤ 32) (p : Pair) (lot-in : p .lot < n) (call-in : p .call < m)
     (gaps : ℕ → ℕ → ℕ) (k place : ℕ) (k-in : k < n) (least later : List ℕ) (r : Bool)
-    (done : Lowered book table places (p .lot) (p .call) k place least r later)
+    (done : GapLowered book table places (p .lot) (p .call) k place least r later)
     (shows : Shows n n least (loweredTo (problemBy book table n m) gaps p k)) where
-  to-is : min (entry least (p .lot) k) (gapBy book table (p .lot) k (p .call))
+  to-is : min (entry least (p .lot) k) (tableGap book table (p .lot) k (p .call))
       ≡ min (gaps (p .lot) k) (gap (problemBy book table n m) costLimit (p .lot) k (p .call))
   to-is = ap₂ min (shows .at (p .lot) k lot-in k-in ∙ not-yet (problemBy book table n m) gaps p k)
       (gap-is book table n m (p .lot) k (p .call) k-in call-in)
 
   pub lot-shows : Shows n n later (loweredTo (problemBy book table n m) gaps p (k + 1))
   lot-shows = rw (done .lowers, to-is)
-      (shows-same (shows-set few few shows (record { lot = p .lot; call = k }) _ lot-in k-in)
+      (shows-same (shows-set few few shows (pair (p .lot) k) _ lot-in k-in)
       (λ a b ha hb. lowered-more (problemBy book table n m) gaps p k a b))
 
   pub lot-says : r ≡ passes (problemBy book table n m) gaps places place p k

@@ -19,12 +19,12 @@ use Rattle.transport.proofs.Orders.Places.{times-same, times-other}
 use Rattle.transport.proofs.Orders.Lists.{Lists, lists-tail}
 use Rattle.transport.proofs.Finder.Standing.{standing, standing-cons}
 use Rattle.specification.specs.OrderFile.{pairs}
-use Rattle.order.specs.Places.{pairAt, rest, passed, metAt}
+use Rattle.order.specs.Places.{orderPair, rest, passed, metAt}
 use Rattle.order.proofs.Arrays.{put-at, put-away}
 
 module _ (order : List ℕ) (count : ℕ) where
   -- the pairs from a place on are the pair there and those from the next place on
-  pub rest-more : (p : ℕ) → p < count → rest order count p ≡ pairAt order p ∷ rest order count (p + 1)
+  pub rest-more : (p : ℕ) → p < count → rest order count p ≡ orderPair order p ∷ rest order count (p + 1)
   unfolding pairs
   rest-more p h =
       let one : count - p ≡ suc (count - (p + 1)) = omega arith in
@@ -43,40 +43,40 @@ module _ (order : List ℕ) (count : ℕ) where
       rw (← add-one p) (lists-tail (rw (rest-more p (omega arith)) at (lists-from P lists p (omega arith))))
 
   -- where a pair's last place is p, it stands there
-  met-stands : (n i j p : ℕ) → metAt order n i j ≡ suc p → T (same i j (pairAt order p))
+  met-stands : (n i j p : ℕ) → metAt order n i j ≡ suc p → T (same i j (orderPair order p))
   unfolding metAt
   met-stands zero i j p e = absurd (omega arith)
-  met-stands (suc n) i j p e = by-cases (T? (same i j (pairAt order n)))
-      (λ t. let q : n ≡ p = omega (arith, put-at (metAt order n) (pairAt order n) (suc n) i j t) in
-      subst (λ (x : ℕ). T (same i j (pairAt order x))) q t)
-      (λ t. met-stands n i j p (sym (put-away (metAt order n) (pairAt order n) (suc n) i j t) ∙ e))
+  met-stands (suc n) i j p e = by-cases (T? (same i j (orderPair order n)))
+      (λ t. let q : n ≡ p = omega (arith, put-at (metAt order n) (orderPair order n) (suc n) i j t) in
+      subst (λ (x : ℕ). T (same i j (orderPair order x))) q t)
+      (λ t. met-stands n i j p (sym (put-away (metAt order n) (orderPair order n) (suc n) i j t) ∙ e))
 
   met-within : (n i j : ℕ) → metAt order n i j ≤ n
   unfolding metAt
   met-within zero i j = omega arith
-  met-within (suc n) i j = by-cases (T? (same i j (pairAt order n)))
-      (λ t. omega (arith, put-at (metAt order n) (pairAt order n) (suc n) i j t))
-      (λ t. omega (arith, put-away (metAt order n) (pairAt order n) (suc n) i j t, met-within n i j))
+  met-within (suc n) i j = by-cases (T? (same i j (orderPair order n)))
+      (λ t. omega (arith, put-at (metAt order n) (orderPair order n) (suc n) i j t))
+      (λ t. omega (arith, put-away (metAt order n) (orderPair order n) (suc n) i j t, met-within n i j))
 
   -- where it stands at p, its last place is p or later
-  pub met-late : (n i j p : ℕ) → p < n → T (same i j (pairAt order p)) → p < metAt order n i j
+  pub met-late : (n i j p : ℕ) → p < n → T (same i j (orderPair order p)) → p < metAt order n i j
   unfolding metAt
   met-late zero i j p h s = absurd (omega arith)
-  met-late (suc n) i j p h s = by-cases (T? (same i j (pairAt order n)))
-      (λ t. omega (arith, put-at (metAt order n) (pairAt order n) (suc n) i j t))
-      (λ t. omega (arith, put-away (metAt order n) (pairAt order n) (suc n) i j t, met-late n i j p (before t) s))
+  met-late (suc n) i j p h s = by-cases (T? (same i j (orderPair order n)))
+      (λ t. omega (arith, put-at (metAt order n) (orderPair order n) (suc n) i j t))
+      (λ t. omega (arith, put-away (metAt order n) (orderPair order n) (suc n) i j t, met-late n i j p (before t) s))
     where
-      before : (T (same i j (pairAt order n)) → ⊥) → p < n
+      before : (T (same i j (orderPair order n)) → ⊥) → p < n
       before t = by-cases (decLt p n) (λ l. l)
           (λ l. let q : p ≡ n = omega arith in
-          absurd (t (subst (λ (x : ℕ). T (same i j (pairAt order x))) q s)))
+          absurd (t (subst (λ (x : ℕ). T (same i j (orderPair order x))) q s)))
 
   -- its last place is p or later exactly when it is after p, or the pair stands at p
   here-or-later : (p i j : ℕ) → p < count
-      → (ltb (p + 1) (metAt order count i j) || same i j (pairAt order p)) ≡ ltb p (metAt order count i j)
+      → (ltb (p + 1) (metAt order count i j) || same i j (orderPair order p)) ≡ ltb p (metAt order count i j)
   here-or-later p i j h =
       let last = metAt order count i j in
-      let here = same i j (pairAt order p) in
+      let here = same i j (orderPair order p) in
       T-ext (ltb (p + 1) last || here) (ltb p last)
       (λ t. ⊎-elim
       (λ s. lt→ltb p last (omega (arith, ltb→lt (p + 1) last s)))
@@ -99,9 +99,9 @@ module _ (order : List ℕ) (count : ℕ) where
 pub met-passed : (order : List ℕ) (p i j : ℕ) → ltb 0 (times i j (passed order p)) ≡ ltb 0 (metAt order p i j)
 unfolding passed metAt times
 met-passed order zero i j = refl
-met-passed order (suc p) i j = by-cases (T? (same i j (pairAt order p)))
-    (λ t. lt-ltb 0 (times i j (passed order (suc p))) (omega (arith, times-same i j (pairAt order p) (passed order p) t))
-    ∙ sym (lt-ltb 0 (metAt order (suc p) i j) (omega (arith, put-at (metAt order p) (pairAt order p) (suc p) i j t))))
-    (λ t. ap (ltb 0) (times-other i j (pairAt order p) (passed order p) t)
+met-passed order (suc p) i j = by-cases (T? (same i j (orderPair order p)))
+    (λ t. lt-ltb 0 (times i j (passed order (suc p))) (omega (arith, times-same i j (orderPair order p) (passed order p) t))
+    ∙ sym (lt-ltb 0 (metAt order (suc p) i j) (omega (arith, put-at (metAt order p) (orderPair order p) (suc p) i j t))))
+    (λ t. ap (ltb 0) (times-other i j (orderPair order p) (passed order p) t)
     ∙ met-passed order p i j
-    ∙ sym (ap (ltb 0) (put-away (metAt order p) (pairAt order p) (suc p) i j t)))
+    ∙ sym (ap (ltb 0) (put-away (metAt order p) (orderPair order p) (suc p) i j t)))

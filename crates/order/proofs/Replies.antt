@@ -1,10 +1,7 @@
 -- Replies one after another.
 use mathlib.Core.Path.{_≡_, refl}
-use Prim.Native.Nat.{ℕ}
-use native.Mathlib.Omega.{arith}
 use Rattle.specification.specs.Reply.{Reply, gives, refuses, refused, _>>=_}
 use Rattle.specification.specs.declared.Refusal.{Refusal}
-use Rattle.specification.specs.declared.Refusal.the-variants as cause
 use Rattle.files.specs.declared.Step.{Step}
 use Rattle.files.specs.declared.Step.the-variants.{Passes, Refused}
 use Rattle.files.specs.Files.{statedStep}
@@ -12,11 +9,6 @@ use Rattle.files.specs.Files.{statedStep}
 pub then-assoc : {A : Type 0} (a b : Reply (Unit {0})) (c : Reply A) → (a >>= λ _. (b >>= λ _. c)) ≡ ((a >>= λ _. b) >>= λ _. c)
 then-assoc (gives u) b c = refl
 then-assoc (refuses k vs) b c = refl
-
--- two replies pass one after another only where each does
-pub both-give : (a b : Reply (Unit {0})) → (a >>= λ _. b) ≡ gives tt → (a ≡ gives tt) × (b ≡ gives tt)
-both-give (gives u) b e = (refl, e)
-both-give (refuses k vs) b e = let z : _≡_ {A = ℕ} 0 1 = cc in absurd (omega arith)
 
 -- after a step that passes comes the rest, and after a refusal nothing
 pub goes-on : {A : Type 0} (r : Step) (next : Reply A) → r ≡ Passes → (statedStep r >>= λ _. next) ≡ next

@@ -1,12 +1,10 @@
 -- The specification's scan in turn, as a loop makes it: one number at a time from the front.
 use mathlib.Core.Path.{_≡_, refl, sym, _∙_, ap}
-use mathlib.Core.Logic.{by-cases}
 use mathlib.Core.Bool.{and-true, and-false}
 use mathlib.Core.List.{List}
 use Prim.Native.Nat.{ℕ, zero, suc, _+_, _-_, _≤_, _<_}
 use native.Mathlib.Nat.{sub-zero, sub-self}
 use native.Mathlib.Numerals.{add-one}
-use native.Mathlib.Decide.{ℕ-discrete}
 use native.Mathlib.Omega.{arith}
 use borrow.Author.Tests.{lt-ltb, le-ltb}
 use lib.Dec.{ltb}
@@ -17,7 +15,7 @@ use Rattle.specification.specs.declared.Refusal.{Refusal}
 use Rattle.files.specs.declared.Step.{Step}
 use Rattle.files.specs.declared.Step.the-variants.{Passes, Refused}
 use Rattle.files.specs.Files.{statedStep}
-use Rattle.order.proofs.Replies.{both-give, goes-on, stops}
+use Rattle.order.proofs.Replies.{goes-on, stops}
 use Rattle.book.specs.Table.{entry}
 use Rattle.order.specs.Answers.{callAt, quadrupleAt}
 
@@ -42,18 +40,11 @@ module _ (f : ℕ → Reply (Unit {0})) where
   unfolding inTurn
   turn-ends m = rw (sub-self m)
 
-  -- nothing is refused of all exactly where nothing is refused of each
+  -- nothing is refused of all where nothing is refused of each
   pub turn-gives : (left from : ℕ) → ((l : ℕ) → l < from + left → f l ≡ gives tt) → inTurn left from f ≡ gives tt
   unfolding inTurn
   turn-gives zero from h = refl
   turn-gives (suc left) from h = rw (h from (omega arith)) (turn-gives left (suc from) (λ l k. h l (omega arith)))
-
-  pub turn-given : (left from : ℕ) → inTurn left from f ≡ gives tt → (l : ℕ) → from ≤ l → l < from + left → f l ≡ gives tt
-  unfolding inTurn
-  turn-given zero from e l low high = absurd (omega arith)
-  turn-given (suc left) from e l low high =
-      let (here, later) = both-give (f from) _ e in
-      by-cases (ℕ-discrete l from) (λ (q : l ≡ from). rw q here) (λ ne. turn-given left (suc from) later l (omega arith) (omega arith))
 
 pub turn-same : (f g : ℕ → Reply (Unit {0})) (left from : ℕ)
     → ((l : ℕ) → l < from + left → f l ≡ g l) → inTurn left from f ≡ inTurn left from g

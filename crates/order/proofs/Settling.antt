@@ -10,7 +10,7 @@ use native.Mathlib.Omega.{arith}
 use lib.Dec.{T, ltb, ltb→lt, lt→ltb}
 use lib.ListN.{drop}
 use Rattle.transport.specs.Problem.{Problem, Eligible}
-use Rattle.transport.specs.Greedy.{Pair}
+use Rattle.transport.specs.Greedy.{Pair, pair}
 use Rattle.transport.specs.Order.{times, OrderOf}
 use Rattle.transport.specs.Finder.{every}
 use Rattle.transport.proofs.Laws.Tests.{T-true, same-of-eq}
@@ -21,7 +21,7 @@ use Rattle.specification.specs.OrderFile.{pairs}
 use Rattle.specification.specs.Check.{checkPairs, checkMonge, complete, inTurn}
 use Rattle.specification.proofs.Holding.{holding-exactly, complete-exactly, order-if-all-stand}
 use Rattle.book.specs.Table.{admitsBy, problemBy}
-use Rattle.order.specs.Places.{pairAt, rest, metAt, Shows}
+use Rattle.order.specs.Places.{orderPair, rest, metAt, Shows}
 use Rattle.order.specs.Asked.{Walkable, CanScan, CanSettle}
 use Rattle.files.specs.Files.{statedStep}
 use Rattle.order.specs.Answers.{presentIn, LowestNotFree, Walked, quadrupleAt, countAfter, checkedPairs}
@@ -45,13 +45,13 @@ order-of-pairs book table n m S passed full =
 
 -- each pair of such an order is eligible, so it can be walked and scanned
 module _ (book table places order : List ℕ) (count n m : ℕ) (s : CanSettle book table places order count n m) where
-  eligible-at : (p : ℕ) → p < count → Eligible (problemBy book table n m) (pairAt order p .lot) (pairAt order p .call)
+  eligible-at : (p : ℕ) → p < count → Eligible (problemBy book table n m) (orderPair order p .lot) (orderPair order p .call)
   eligible-at p h =
-      let i = pairAt order p .lot in
-      let j = pairAt order p .call in
+      let i = orderPair order p .lot in
+      let j = orderPair order p .call in
       lists-of-order (s .each-once) .eligible i j (ltb→lt 0 (times i j (rest order count 0))
       (subst T (sym (met-later order count count 0 i j (omega arith)))
-      (lt→ltb 0 (metAt order count i j) (omega (arith, met-late order count count i j p h (same-of-eq i j (pairAt order p) refl refl))))))
+      (lt→ltb 0 (metAt order count i j) (omega (arith, met-late order count count i j p h (same-of-eq i j (orderPair order p) refl refl))))))
 
   pub walkable : Walkable book table places order count n
   walkable = record {
@@ -60,12 +60,12 @@ module _ (book table places order : List ℕ) (count n m : ℕ) (s : CanSettle b
     order-long = s .sized .order-long;
     lot-in = λ p h. eligible-at p h .0;
     call-in = λ p h. omega (arith, eligible-at p h .1, s .sized .few-calls);
-    in-table = λ p h. admitted-in table n m (pairAt order p .lot) (pairAt order p .call) (T-true _ (eligible-at p h .2)) .2;
+    in-table = λ p h. admitted-in table n m (orderPair order p .lot) (orderPair order p .call) (T-true _ (eligible-at p h .2)) .2;
     shows = s .shows;
   }
 
   -- the quadruples of one of its pairs
-  pub scannable : (p i j : ℕ) → p < count → i ≡ pairAt order p .lot → j ≡ pairAt order p .call → CanScan book table n m p i j
+  pub scannable : (p i j : ℕ) → p < count → i ≡ orderPair order p .lot → j ≡ orderPair order p .call → CanScan book table n m p i j
   scannable p i j h lot-is call-is =
       let own = eligible-at p h in
       record {
@@ -83,13 +83,13 @@ module _ (book table places order : List ℕ) (count n m : ℕ) (s : CanSettle b
     lowest = walked m (s .sized .few-calls) (s .each-once)
 
     pub settled-whole : r ≡ count → checkMonge (problemBy book table n m) (rest order count 0) ≡ gives tt
-    settled-whole = nothing-fails (problemBy book table n m) order count (lists-of-order (s .each-once)) r lowest
+    settled-whole = nothing-fails (problemBy book table n m) (inside-table book table n m) order count (lists-of-order (s .each-once)) r lowest
 
-    pub settled-at : r < count → (found : Step) (i j : ℕ) → i ≡ pairAt order r .lot → j ≡ pairAt order r .call
-        → statedStep found ≡ inTurn n 0 (λ k. inTurn m 0 (quadrupleAt book table places n m r (record { lot = i; call = j }) k))
+    pub settled-at : r < count → (found : Step) (i j : ℕ) → i ≡ orderPair order r .lot → j ≡ orderPair order r .call
+        → statedStep found ≡ inTurn n 0 (λ k. inTurn m 0 (quadrupleAt book table places n m r (pair i j) k))
         → statedStep found ≡ checkMonge (problemBy book table n m) (rest order count 0)
     settled-at h found i j lot-is call-is says =
-        first-failure (problemBy book table n m) order count (lists-of-order (s .each-once)) r lowest h found
+        first-failure (problemBy book table n m) (inside-table book table n m) order count (lists-of-order (s .each-once)) r lowest h found
         (says ∙ quadruples-by-array book table places order count n m (s .sized .few-lots) (s .sized .few-calls) (s .shows)
         r h (eligible-at r h .0) (eligible-at r h .1) i j lot-is call-is)
 

@@ -15,7 +15,7 @@ use Rattle.files.specs.declared.Step.{Step}
 use Rattle.files.specs.declared.Step.the-variants.{Passes}
 use Rattle.files.specs.Files.{statedStep}
 use Rattle.book.specs.Table.{entry, admitsBy, problemBy}
-use Rattle.order.specs.Places.{pairAt, rest, passed, metAt, Shows}
+use Rattle.order.specs.Places.{orderPair, rest, passed, metAt, Shows}
 use Rattle.order.specs.Answers.{Met}
 use Rattle.order.proofs.Eligibles.{admitted-in}
 use Rattle.order.proofs.Arrays.{shows-set}
@@ -25,15 +25,15 @@ use Rattle.order.proofs.Replies.{then-assoc}
 module _ (table order : List ℕ) (count n m : ℕ) (few-lots : n ≤ 32) (few-calls : m ≤ 32) where
   -- 9, then 10, by a test of whether the pair was met
   answer : ℕ → Bool → Reply (Unit {0})
-  answer p met = refuseIf (not (admitsBy table n m (pairAt order p .lot) (pairAt order p .call))) 9 (p ∷ [])
+  answer p met = refuseIf (not (admitsBy table n m (orderPair order p .lot) (orderPair order p .call))) 9 (p ∷ [])
       >>= λ _. refuseIf met 10 (p ∷ [])
 
   pairs-step : (book : List ℕ) (p : ℕ) → p < count → checkPairs (problemBy book table n m) (passed order p) p (rest order count p)
-      ≡ (answer p (ltb 0 (metAt order p (pairAt order p .lot) (pairAt order p .call)))
+      ≡ (answer p (ltb 0 (metAt order p (orderPair order p .lot) (orderPair order p .call)))
       >>= λ _. checkPairs (problemBy book table n m) (passed order (p + 1)) (p + 1) (rest order count (p + 1)))
   unfolding checkPairs passed answer
   pairs-step book p h =
-      let q = pairAt order p in
+      let q = orderPair order p in
       rw (rest-more order count p h, checkPairs, add-one p, met-passed order p)
       (then-assoc
       (refuseIf (not (admitsBy table n m (q .lot) (q .call))) 9 (p ∷ []))
@@ -42,15 +42,15 @@ module _ (table order : List ℕ) (count n m : ℕ) (few-lots : n ≤ 32) (few-c
 
   -- only of an eligible pair is it asked whether it was met
   by-array : (p : ℕ) (places : List ℕ) → Shows 32 32 places (metAt order p)
-      → answer p (ltb 0 (entry places (pairAt order p .lot) (pairAt order p .call)))
-      ≡ answer p (ltb 0 (metAt order p (pairAt order p .lot) (pairAt order p .call)))
+      → answer p (ltb 0 (entry places (orderPair order p .lot) (orderPair order p .call)))
+      ≡ answer p (ltb 0 (metAt order p (orderPair order p .lot) (orderPair order p .call)))
   unfolding answer
-  by-array p places s = by-cases (T? (admitsBy table n m (pairAt order p .lot) (pairAt order p .call)))
-      (λ t. let h = admitted-in table n m (pairAt order p .lot) (pairAt order p .call) (T-true _ t) in
-      rw (s .at (pairAt order p .lot) (pairAt order p .call) (omega (arith, h .0)) (omega (arith, h .1))))
-      (λ t. rw (T-false (admitsBy table n m (pairAt order p .lot) (pairAt order p .call)) t))
+  by-array p places s = by-cases (T? (admitsBy table n m (orderPair order p .lot) (orderPair order p .call)))
+      (λ t. let h = admitted-in table n m (orderPair order p .lot) (orderPair order p .call) (T-true _ t) in
+      rw (s .at (orderPair order p .lot) (orderPair order p .call) (omega (arith, h .0)) (omega (arith, h .1))))
+      (λ t. rw (T-false (admitsBy table n m (orderPair order p .lot) (orderPair order p .call)) t))
 
-  module _ (p i j : ℕ) (lot-is : i ≡ pairAt order p .lot) (call-is : j ≡ pairAt order p .call) (h : p < count)
+  module _ (p i j : ℕ) (lot-is : i ≡ orderPair order p .lot) (call-is : j ≡ orderPair order p .call) (h : p < count)
       (places later : List ℕ) (shows : Shows 32 32 places (metAt order p)) (r : Step) (met : Met table n m i j p places r later) where
     pub turn-says : (book : List ℕ) → checkPairs (problemBy book table n m) (passed order p) p (rest order count p)
         ≡ (statedStep r >>= λ _. checkPairs (problemBy book table n m) (passed order (p + 1)) (p + 1) (rest order count (p + 1)))
@@ -62,4 +62,4 @@ module _ (table order : List ℕ) (count n m : ℕ) (few-lots : n ≤ 32) (few-c
     turn-shows e =
         let inside = met .in-table e in
         rw (met .noted e, add-one p, metAt, lot-is, call-is)
-        (shows-set (omega arith) (omega arith) shows (pairAt order p) (suc p) (omega arith) (omega arith))
+        (shows-set (omega arith) (omega arith) shows (orderPair order p) (suc p) (omega arith) (omega arith))

@@ -20,9 +20,9 @@ use Rattle.transport.proofs.Finder.Gaps.{leastAt, least-at-same}
 use Rattle.transport.proofs.Finder.Backward.{backward, lowered, in-play-stands, verdict-is-free}
 use Rattle.specification.specs.Book.{costLimit}
 use Rattle.book.specs.Table.{entry, problemBy}
-use Rattle.order.specs.Places.{pairAt, rest, Shows}
+use Rattle.order.specs.Places.{orderPair, rest, Shows}
 use Rattle.order.specs.Asked.{Walkable}
-use Rattle.order.specs.Answers.{Entered, freeAt, LowestNotFree}
+use Rattle.order.specs.Answers.{PairEntered, freeAt, LowestNotFree}
 use Rattle.order.proofs.Eligibles.{bounded}
 use Rattle.order.proofs.Arrays.{shows-all}
 use Rattle.order.proofs.Placing.{rest-more, rest-none, met-later, lists-from}
@@ -46,34 +46,34 @@ module _ (book table places order : List ℕ) (count n m : ℕ) (w : Walkable bo
   abbrev P : Problem
   P = problemBy book table n m
 
-  lists : Lists P (pairAt order p ∷ rest order count (p + 1))
+  lists : Lists P (orderPair order p ∷ rest order count (p + 1))
   lists = rw (rest-more order count p h) at (lists-from order count P (lists-of-order each-once) p (omega arith))
 
-  turn-gaps : lowered P costLimit (backward P costLimit (rest order count (p + 1)) .gaps) (pairAt order p)
+  turn-gaps : lowered P costLimit (backward P costLimit (rest order count (p + 1)) .gaps) (orderPair order p)
       ≡ backward P costLimit (rest order count p) .gaps
   unfolding backward
   turn-gaps = rw (rest-more order count p h)
 
   -- what is in play in the pair's turn, by the array
-  in-play-is : (k : ℕ) → k < n → ltb p (entry places k (pairAt order p .call))
-      ≡ withPair (backward P costLimit (rest order count (p + 1)) .inPlay) (pairAt order p) k (pairAt order p .call)
+  in-play-is : (k : ℕ) → k < n → ltb p (entry places k (orderPair order p .call))
+      ≡ withPair (backward P costLimit (rest order count (p + 1)) .inPlay) (orderPair order p) k (orderPair order p .call)
   unfolding backward
   in-play-is k hk =
-      ap (ltb p) (w .shows .at k (pairAt order p .call) (omega (arith, w .few-lots)) (w .call-in p h))
-      ∙ sym (met-later order count (count - p) p k (pairAt order p .call) (omega arith))
-      ∙ ap (λ (S : List Pair). standing S k (pairAt order p .call)) (rest-more order count p h)
-      ∙ sym (in-play-stands P costLimit (pairAt order p ∷ rest order count (p + 1)) k (pairAt order p .call))
+      ap (ltb p) (w .shows .at k (orderPair order p .call) (omega (arith, w .few-lots)) (w .call-in p h))
+      ∙ sym (met-later order count (count - p) p k (orderPair order p .call) (omega arith))
+      ∙ ap (λ (S : List Pair). standing S k (orderPair order p .call)) (rest-more order count p h)
+      ∙ sym (in-play-stands P costLimit (orderPair order p ∷ rest order count (p + 1)) k (orderPair order p .call))
 
   turn-free : leastAt P costLimit (λ k l. ltb p (entry places k l))
-      (lowered P costLimit (backward P costLimit (rest order count (p + 1)) .gaps) (pairAt order p) (pairAt order p .lot))
-      (pairAt order p .lot) (pairAt order p .call)
+      (lowered P costLimit (backward P costLimit (rest order count (p + 1)) .gaps) (orderPair order p) (orderPair order p .lot))
+      (orderPair order p .lot) (orderPair order p .call)
       ≡ freeAt P order count p
   turn-free = rw (rest-more order count p h)
       (least-at-same P costLimit (λ k l. ltb p (entry places k l))
-      (withPair (backward P costLimit (rest order count (p + 1)) .inPlay) (pairAt order p))
-      (lowered P costLimit (backward P costLimit (rest order count (p + 1)) .gaps) (pairAt order p) (pairAt order p .lot)) _
-      (pairAt order p .lot) (pairAt order p .call) in-play-is (λ k hk. refl)
-      ∙ verdict-is-free P costLimit (bounded book table n m (w .few-lots) few-calls (w .tabled)) (pairAt order p) _ lists)
+      (withPair (backward P costLimit (rest order count (p + 1)) .inPlay) (orderPair order p))
+      (lowered P costLimit (backward P costLimit (rest order count (p + 1)) .gaps) (orderPair order p) (orderPair order p .lot)) _
+      (orderPair order p .lot) (orderPair order p .call) in-play-is (λ k hk. refl)
+      ∙ verdict-is-free P costLimit (bounded book table n m (w .few-lots) few-calls (w .tabled)) (orderPair order p) _ lists)
 
 -- the array holds the least gaps of the pairs from p on, and the answer is the lowest place from p on that fails
 abbrev pub WalkedFrom : (book table order : List ℕ) (count n p : ℕ) (least : List ℕ) (lowest : ℕ) → Type 0
@@ -93,12 +93,12 @@ walked-none book table order count n few m few-calls each-once = (
 
 -- the whole turn of the pair (i, j) at p, `next` being the place after it
 module _ (book table places order : List ℕ) (count n : ℕ) (w : Walkable book table places order count n)
-    (p : ℕ) (h : p < count) (next : ℕ) (next-is : next ≡ p + 1) (i j : ℕ) (lot-is : i ≡ pairAt order p .lot)
-    (call-is : j ≡ pairAt order p .call) (least later : List ℕ) (r : Bool) (lowest : ℕ)
-    (enters : (m : ℕ) (gaps : ℕ → ℕ → ℕ) → j < m → Shows n n least gaps → Entered book table places n i j p r later m gaps)
+    (p : ℕ) (h : p < count) (next : ℕ) (next-is : next ≡ p + 1) (i j : ℕ) (lot-is : i ≡ orderPair order p .lot)
+    (call-is : j ≡ orderPair order p .call) (least later : List ℕ) (r : Bool) (lowest : ℕ)
+    (enters : (m : ℕ) (gaps : ℕ → ℕ → ℕ) → j < m → Shows n n least gaps → PairEntered book table places n i j p r later m gaps)
     (so-far : WalkedFrom book table order count n next least lowest) where
   module _ (m : ℕ) (few-calls : m ≤ 32) (each-once : OrderOf (problemBy book table n m) (rest order count 0)) where
-    entered : Entered book table places n i j p r later m (backward (problemBy book table n m) costLimit (rest order count (p + 1)) .gaps)
+    entered : PairEntered book table places n i j p r later m (backward (problemBy book table n m) costLimit (rest order count (p + 1)) .gaps)
     entered = enters m _ (rw call-is (lists-head (lists book table places order count n m w few-calls each-once p h) .1))
         (rw next-is at (so-far m few-calls each-once .0))
 

@@ -5,7 +5,7 @@ use mathlib.Core.Bool.{Bool, true, false, cond, not, _&&_, _||_}
 use Prim.Native.Nat.{ℕ, _+_, _*_, _≤_, _<_, min}
 use lib.Dec.{ltb, leb}
 use lib.ListN.{set}
-use Rattle.transport.specs.Greedy.{Pair}
+use Rattle.transport.specs.Greedy.{Pair, pair}
 use Rattle.transport.specs.Problem.{Problem}
 use Rattle.transport.specs.Order.{OrderOf}
 use Rattle.transport.specs.Finder.{free}
@@ -17,7 +17,7 @@ use Rattle.specification.specs.Reply.{Reply, gives, refuses, refuseIf, _>>=_}
 use Rattle.specification.specs.Check.{checkQuadruple, checkPairs, complete, checkMonge}
 use Rattle.files.specs.Files.{statedStep}
 use Rattle.book.specs.Table.{entry, admitsBy, problemBy}
-use Rattle.order.specs.Places.{pairAt, rest, metAt, gapBy, Shows}
+use Rattle.order.specs.Places.{orderPair, rest, metAt, tableGap, Shows}
 use Rattle.order.specs.declared.scan.Quadruple.{Quadruple}
 use Rattle.order.specs.declared.scan.Quadruple.the-variants.{Holds, NotEligible, TooHigh}
 use Rattle.files.specs.declared.Step.{Step}
@@ -32,7 +32,7 @@ statedQuadruple p k l TooHigh = refuses 12 (p .lot ∷ p .call ∷ k ∷ l ∷ [
 abbrev pub Tested : List ℕ → List ℕ → ℕ → ℕ → ℕ → ℕ → Quadruple → Type 0
 Tested book table i j k l r =
     (n m : ℕ) → k < n → l < m
-    → statedQuadruple (record { lot = i; call = j }) k l r ≡ checkQuadruple (problemBy book table n m) (record { lot = i; call = j }) k l
+    → statedQuadruple (pair i j) k l r ≡ checkQuadruple (problemBy book table n m) (pair i j) k l
 
 -- a pair is not eligible, or has a place
 abbrev pub presentIn : List ℕ → List ℕ → ℕ → ℕ → ℕ → ℕ → Bool
@@ -46,25 +46,25 @@ pub record Met (table : List ℕ) (n m i j place : ℕ) (places : List ℕ) (r :
   pub noted : r ≡ Passes → later ≡ set places (32 * i + j) (place + 1)
 
 -- all pairs of an order in turn; where none is refused, the array then holds the places
-pub record Filled (table order : List ℕ) (count n m : ℕ) (r : Step) (places : List ℕ) : Type 0 where
+pub record PlacesFilled (table order : List ℕ) (count n m : ℕ) (r : Step) (places : List ℕ) : Type 0 where
   pub says : (book : List ℕ) → statedStep r ≡ checkPairs (problemBy book table n m) [] 0 (rest order count 0)
   pub shows : r ≡ Passes → Shows 32 32 places (metAt order count)
 
 -- lot k in the turn of the pair (i, j), which stands at a place: the least gap of i over k is lowered to that at j,
 -- and the answer is whether (k, j) stands earlier or the gap at j is now the least
-pub record Lowered (book table places : List ℕ) (i j k place : ℕ) (least : List ℕ) (r : Bool) (later : List ℕ) : Type 0 where
-  pub lowers : later ≡ set least (32 * i + k) (min (entry least i k) (gapBy book table i k j))
-  pub says : r ≡ (not (ltb place (entry places k j)) || leb (gapBy book table i k j) (min (entry least i k) (gapBy book table i k j)))
+pub record GapLowered (book table places : List ℕ) (i j k place : ℕ) (least : List ℕ) (r : Bool) (later : List ℕ) : Type 0 where
+  pub lowers : later ≡ set least (32 * i + k) (min (entry least i k) (tableGap book table i k j))
+  pub says : r ≡ (not (ltb place (entry places k j)) || leb (tableGap book table i k j) (min (entry least i k) (tableGap book table i k j)))
 
 -- the whole turn of a pair, for every count of calls above j and all least gaps that the array shows
-pub record Entered (book table places : List ℕ) (n i j place : ℕ) (r : Bool) (later : List ℕ) (m : ℕ) (gaps : ℕ → ℕ → ℕ) : Type 0 where
-  pub shows : Shows n n later (lowered (problemBy book table n m) costLimit gaps (record { lot = i; call = j }))
+pub record PairEntered (book table places : List ℕ) (n i j place : ℕ) (r : Bool) (later : List ℕ) (m : ℕ) (gaps : ℕ → ℕ → ℕ) : Type 0 where
+  pub shows : Shows n n later (lowered (problemBy book table n m) costLimit gaps (pair i j))
   pub says : r ≡ leastAt (problemBy book table n m) costLimit (λ k l. ltb place (entry places k l))
-      (lowered (problemBy book table n m) costLimit gaps (record { lot = i; call = j }) i) i j
+      (lowered (problemBy book table n m) costLimit gaps (pair i j) i) i j
 
 -- whether the pair at a place of an order is free against the pairs that stand there or later
 abbrev pub freeAt : Problem → List ℕ → ℕ → ℕ → Bool
-freeAt P order count p = free P (standing (rest order count p)) (pairAt order p .lot) (pairAt order p .call)
+freeAt P order count p = free P (standing (rest order count p)) (orderPair order p .lot) (orderPair order p .call)
 
 -- of the places from `from` on, r is the lowest whose pair is not free, and the count where there is none
 pub record LowestNotFree (P : Problem) (order : List ℕ) (count from r : ℕ) : Type 0 where
@@ -84,7 +84,7 @@ callAt book table places n m place p k l =
 
 abbrev pub TestedLater : List ℕ → List ℕ → List ℕ → ℕ → ℕ → ℕ → ℕ → ℕ → Step → Type 0
 TestedLater book table places place i j k l r =
-    (n m : ℕ) → k < n → l < m → statedStep r ≡ callAt book table places n m place (record { lot = i; call = j }) k l
+    (n m : ℕ) → k < n → l < m → statedStep r ≡ callAt book table places n m place (pair i j) k l
 
 -- and where both (i, l) and (k, j) do
 abbrev pub quadrupleAt : List ℕ → List ℕ → List ℕ → ℕ → ℕ → ℕ → Pair → ℕ → ℕ → Reply (Unit {0})

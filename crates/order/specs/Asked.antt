@@ -7,7 +7,7 @@ use Rattle.specification.specs.Bytes.{u32At}
 use Rattle.transport.specs.Order.{OrderOf}
 use Rattle.specification.specs.Book.{costLimit}
 use Rattle.book.specs.Table.{entry, problemBy, Tabled, CanRead}
-use Rattle.order.specs.Places.{pairAt, rest, metAt, Shows}
+use Rattle.order.specs.Places.{orderPair, rest, metAt, Shows}
 
 -- a quadruple of the table's lots and calls
 pub record CanTest (book table : List ℕ) (i j k l : ℕ) : Type 0 where
@@ -43,9 +43,9 @@ pub record Walkable (book table places order : List ℕ) (count n : ℕ) : Type 
   pub tabled : Tabled book table
   pub few-lots : n ≤ 32
   pub order-long : 7 + 2 * count ≤ length order
-  pub lot-in : (p : ℕ) → p < count → pairAt order p .lot < n
-  pub call-in : (p : ℕ) → p < count → pairAt order p .call < 32
-  pub in-table : (p : ℕ) → p < count → entry table (pairAt order p .lot) (pairAt order p .call) ≡ 0 → ⊥
+  pub lot-in : (p : ℕ) → p < count → orderPair order p .lot < n
+  pub call-in : (p : ℕ) → p < count → orderPair order p .call < 32
+  pub in-table : (p : ℕ) → p < count → entry table (orderPair order p .lot) (orderPair order p .call) ≡ 0 → ⊥
   pub shows : Shows 32 32 places (metAt order count)
 
 -- the quadruples of the pair (i, j), which stands at a place, with lot k and each of m calls

@@ -5,15 +5,15 @@ use mathlib.Core.List.{List, [], _∷_}
 use Prim.Native.Nat.{ℕ, zero, suc, _+_, _*_, _-_, _<_}
 use lib.Dec.{eqb}
 use lib.ListN.{length, getD, drop}
-use Rattle.transport.specs.Greedy.{Pair, putPair}
+use Rattle.transport.specs.Greedy.{Pair, pair, putPair}
 use Rattle.specification.specs.Bytes.{u32At}
 use Rattle.specification.specs.OrderFile.{pairs}
 use Rattle.specification.specs.Book.{costLimit}
 use Rattle.book.specs.Table.{entry}
 
 -- the pair at a place of an order file: two bytes, lot and call, after seven bytes
-abbrev pub pairAt : List ℕ → ℕ → Pair
-pairAt order p = record { lot = getD order (7 + 2 * p) 0; call = getD order (7 + 2 * p + 1) 0 }
+abbrev pub orderPair : List ℕ → ℕ → Pair
+orderPair order p = pair (getD order (7 + 2 * p) 0) (getD order (7 + 2 * p + 1) 0)
 
 -- the pairs from a place on, and those before it, the last in front
 abbrev pub rest : List ℕ → ℕ → ℕ → List Pair
@@ -21,12 +21,12 @@ rest order count p = pairs (count - p) (drop (7 + 2 * p) order)
 
 unfoldable pub passed : List ℕ → ℕ → List Pair
 passed order zero = []
-passed order (suc p) = pairAt order p ∷ passed order p
+passed order (suc p) = orderPair order p ∷ passed order p
 
 -- one more than the last place before p at which a pair stands, or 0
 unfoldable pub metAt : List ℕ → ℕ → ℕ → ℕ → ℕ
 metAt order zero i j = 0
-metAt order (suc p) i j = putPair (metAt order p) (pairAt order p) (suc p) i j
+metAt order (suc p) i j = putPair (metAt order p) (orderPair order p) (suc p) i j
 
 -- below n and m an array of 32 by 32 entries holds f
 pub record Shows (n m : ℕ) (xs : List ℕ) (f : ℕ → ℕ → ℕ) : Type 0 where
@@ -34,6 +34,6 @@ pub record Shows (n m : ℕ) (xs : List ℕ) (f : ℕ → ℕ → ℕ) : Type 0 
   pub at : (i j : ℕ) → i < n → j < m → entry xs i j ≡ f i j
 
 -- the gap of lot i over lot k at call j, by the table: 0 where (k, j) is not eligible
-abbrev pub gapBy : List ℕ → List ℕ → ℕ → ℕ → ℕ → ℕ
-gapBy book table i k j =
+abbrev pub tableGap : List ℕ → List ℕ → ℕ → ℕ → ℕ → ℕ
+tableGap book table i k j =
     cond (eqb (entry table k j) 0) 0 (suc (costLimit + u32At book (entry table i j)) - u32At book (entry table k j))

@@ -7,9 +7,9 @@ ghost use mathlib.Core.Path.{_≡_};
 ghost use Prim.Native.Nat.{_+_, _*_, _<_, _≤_};
 ghost use lib.ListN.{length};
 ghost use Rattle.transport.specs.Finder.{every};
-ghost use Rattle.order.specs.Places.{pairAt, Shows};
+ghost use Rattle.order.specs.Places.{orderPair, Shows};
 ghost use Rattle.order.specs.Asked.{CanWalk};
-ghost use Rattle.order.specs.Answers.{Met, Filled, presentIn};
+ghost use Rattle.order.specs.Answers.{Met, PlacesFilled, presentIn};
 
 // A byte as a number of a wider type.
 fn index(x: u8) -> usize
@@ -21,14 +21,14 @@ fn index(x: u8) -> usize
 // The lot and the call of the pair at a place of an order file.
 pub fn lot_at(order: &[u8], place: usize) -> Lot
     requires { ⌜ 7 + 2 * place + 2 ≤ length (now order) ⌝ }
-    ensures { λ r. ⌜ r .0 ≡ pairAt (now (order .entry)) place .lot ⌝ }
+    ensures { λ r. ⌜ r .0 ≡ orderPair (now (order .entry)) place .lot ⌝ }
 {
     Lot(index(order[7 + 2 * place]))
 }
 
 pub fn call_at(order: &[u8], place: usize) -> Call
     requires { ⌜ 7 + 2 * place + 2 ≤ length (now order) ⌝ }
-    ensures { λ r. ⌜ r .0 ≡ pairAt (now (order .entry)) place .call ⌝ }
+    ensures { λ r. ⌜ r .0 ≡ orderPair (now (order .entry)) place .call ⌝ }
 {
     Call(index(order[7 + 2 * place + 1]))
 }
@@ -69,7 +69,7 @@ pub fn fill_places(
     places: &mut [u16; 1024],
 ) -> Step
     requires { ⌜ CanWalk (now order) count n m × Shows 32 32 (now places) (λ i j. 0) ⌝ }
-    ensures { λ r. ⌜ Filled (now (offsets .entry)) (now (order .entry)) count n m r (now (places .exit)) ⌝ }
+    ensures { λ r. ⌜ PlacesFilled (now (offsets .entry)) (now (order .entry)) count n m r (now (places .exit)) ⌝ }
 {
     let mut p: usize = 0;
     while p < count {

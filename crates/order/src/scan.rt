@@ -5,6 +5,7 @@ use specification::Lot;
 use specification::Refusal;
 ghost use mathlib.Core.Path.{_≡_};
 ghost use Prim.Native.Nat.{ℕ, _<_};
+ghost use Rattle.transport.specs.Greedy.{pair};
 ghost use Rattle.specification.specs.Check.{inTurn};
 ghost use Rattle.files.specs.Files.{statedStep};
 ghost use Rattle.order.specs.Asked.{CanTest, CanScanLot, CanScan};
@@ -44,7 +45,7 @@ pub fn test_quadruple(
 
 // The refusal that a quadruple comes to.
 fn named(q: Quadruple, i: Lot, j: Call, k: Lot, l: Call) -> Step
-    ensures { λ r. ⌜ statedStep r ≡ statedQuadruple (record { lot = i .0; call = j .0 }) (k .0) (l .0) q ⌝ }
+    ensures { λ r. ⌜ statedStep r ≡ statedQuadruple (pair (i .0) (j .0)) (k .0) (l .0) q ⌝ }
 {
     match q {
         Quadruple::Holds => Step::Passes,
@@ -88,7 +89,7 @@ fn lot_failure(
     requires { ⌜ CanScanLot (now book) (now offsets) m place (i .0) (j .0) (k .0) ⌝ }
     ensures { λ r.
         ⌜ ((n : ℕ) → k .0 < n → statedStep r ≡ inTurn m 0 (quadrupleAt (now (book .entry)) (now (offsets .entry))
-        (now (places .entry)) n m place (record { lot = i .0; call = j .0 }) (k .0))) ⌝ }
+        (now (places .entry)) n m place (pair (i .0) (j .0)) (k .0))) ⌝ }
 {
     if book::inner::entry_of(places, k, j) <= place + 1 {
         return Step::Passes;
@@ -118,7 +119,7 @@ pub fn pair_failure(
     requires { ⌜ CanScan (now book) (now offsets) n m place (i .0) (j .0) ⌝ }
     ensures { λ r.
         ⌜ statedStep r ≡ inTurn n 0 (λ k. inTurn m 0 (quadrupleAt (now (book .entry)) (now (offsets .entry)) (now (places .entry))
-        n m place (record { lot = i .0; call = j .0 }) k)) ⌝ }
+        n m place (pair (i .0) (j .0)) k)) ⌝ }
 {
     let mut k: usize = 0;
     while k < n {

@@ -5,16 +5,16 @@ ghost use mathlib.Core.Path.{_≡_};
 ghost use Prim.Native.Nat.{ℕ, _<_, _≤_};
 ghost use Rattle.specification.specs.Bytes.{u32At};
 ghost use Rattle.book.specs.Table.{entry, CanRead};
-ghost use Rattle.order.specs.Places.{gapBy, Shows};
+ghost use Rattle.order.specs.Places.{tableGap, Shows};
 ghost use Rattle.order.specs.Asked.{CanLower, CanEnter, Walkable};
-ghost use Rattle.order.specs.Answers.{Lowered, Entered, Walked};
+ghost use Rattle.order.specs.Answers.{GapLowered, PairEntered, Walked};
 
 // The gap of a lot, whose own cost at call j is given, over lot k at call j; 0 where (k, j) is not eligible.
 fn gap(book: &[u8], offsets: &[u16; 1024], own: u32, k: Lot, j: Call) -> u32
     requires { ⌜ CanRead (now book) (now offsets) (k .0) (j .0) × (own ≤ 1000000) ⌝ }
     ensures { λ r.
         ⌜ ((i : ℕ) → own ≡ u32At (now (book .entry)) (entry (now (offsets .entry)) i (j .0))
-        → r ≡ gapBy (now (book .entry)) (now (offsets .entry)) i (k .0) (j .0)) ⌝ }
+        → r ≡ tableGap (now (book .entry)) (now (offsets .entry)) i (k .0) (j .0)) ⌝ }
 {
     let at = book::inner::entry_of(offsets, k, j);
     let other = book::inner::cost_at(book, at);
@@ -36,7 +36,7 @@ fn lower(
 ) -> bool
     requires { ⌜ CanLower (now book) (now offsets) (i .0) (j .0) (k .0) own ⌝ }
     ensures { λ r.
-        ⌜ Lowered (now (book .entry)) (now (offsets .entry)) (now (places .entry)) (i .0) (j .0) (k .0) place
+        ⌜ GapLowered (now (book .entry)) (now (offsets .entry)) (now (places .entry)) (i .0) (j .0) (k .0) place
         (now (least .entry)) r (now (least .exit)) ⌝ }
 {
     let new = gap(book, offsets, own, k, j);
@@ -64,7 +64,7 @@ fn enter(
     requires { ⌜ CanEnter (now book) (now offsets) n (i .0) (j .0) ⌝ }
     ensures { λ r.
         ⌜ ((m : ℕ) (gaps : ℕ → ℕ → ℕ) → j .0 < m → Shows n n (now (least .entry)) gaps
-        → Entered (now (book .entry)) (now (offsets .entry)) (now (places .entry)) n (i .0) (j .0) place r
+        → PairEntered (now (book .entry)) (now (offsets .entry)) (now (places .entry)) n (i .0) (j .0) place r
         (now (least .exit)) m gaps) ⌝ }
 {
     let own = book::inner::cost_of(book, offsets, i, j);

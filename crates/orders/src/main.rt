@@ -53,22 +53,30 @@ fn show_first(label: &[u8], book: &[u8], order: &[u8], size: usize) {
     }
 }
 
+// Stores a byte, where the file has its place.
+fn put(file: &mut [u8], at: usize, x: u8) {
+    if at < file.len() {
+        file[at] = x;
+    }
+}
+
+// Writes the opening of a book of n lots and m calls.
+fn open_book(file: &mut [u8], n: u8, m: u8) {
+    files::write_opening(file, &files::BOOK_MARK, n as u16 + 256 * (m as u16));
+}
+
 // One case: the order's pairs as document 01 writes them, a digit for the lot and one for the call, as in "01 00 10".
 fn show_pairs(label: &[u8], book: &[u8], pairs: &[u8]) {
     let mut file = [0u8; 209];
-    file[0] = b'C';
-    file[1] = b'L';
-    file[2] = b'O';
-    file[3] = 1;
     let mut p: usize = 0;
     while p < 100 {
-        file[7 + 2 * p] = files::u8_at(pairs, 3 * p) % 16;
-        file[8 + 2 * p] = files::u8_at(pairs, 3 * p + 1) % 16;
+        put(&mut file, 7 + 2 * p, files::u8_at(pairs, 3 * p) % 16);
+        put(&mut file, 8 + 2 * p, files::u8_at(pairs, 3 * p + 1) % 16);
         p += 1;
     }
     let before_last = pairs.len() / 3;
     if before_last < 100 {
-        file[5] = (before_last + 1) as u8;
+        files::write_opening(&mut file, &files::ORDER_MARK, (before_last + 1) as u16);
         show_first(label, book, &file, 9 + 2 * before_last);
     }
 }
@@ -78,18 +86,13 @@ fn square(a: u8, b: u8, c: u8, d: u8) -> [u8; 31]
     ensures { λ r. ⌜ 31 ≡ length r ⌝ }
 {
     let mut file = [0u8; 31];
-    file[0] = b'C';
-    file[1] = b'L';
-    file[2] = b'B';
-    file[3] = 1;
-    file[5] = 2;
-    file[6] = 2;
     file[7] = 3;
     file[11] = a;
     file[15] = b;
     file[19] = 3;
     file[23] = c;
     file[27] = d;
+    open_book(&mut file, 2, 2);
     file
 }
 
@@ -124,75 +127,46 @@ fn show_variations() {
     );
 }
 
-// A book of 15 lots and 20 calls, all eligible at cost 0, and its 300 pairs lot by lot under a count's two bytes.
-fn book_of_300() -> [u8; 1267]
-    ensures { λ r. ⌜ 1267 ≡ length r ⌝ }
-{
-    let mut file = [0u8; 1267];
-    file[0] = b'C';
-    file[1] = b'L';
-    file[2] = b'B';
-    file[3] = 1;
-    file[5] = 15;
-    file[6] = 20;
-    let mut lot: usize = 0;
-    while lot < 15 {
-        file[7 + 84 * lot] = 255;
-        file[8 + 84 * lot] = 255;
-        file[9 + 84 * lot] = 15;
-        lot += 1;
-    }
-    file
-}
-
-fn order_of_300(low: u8, high: u8) -> [u8; 607]
-    ensures { λ r. ⌜ 607 ≡ length r ⌝ }
-{
-    let mut file = [0u8; 607];
-    file[0] = b'C';
-    file[1] = b'L';
-    file[2] = b'O';
-    file[3] = 1;
-    file[5] = low;
-    file[6] = high;
-    let mut p: usize = 0;
-    while p < 300 {
-        file[7 + 2 * p] = (p / 20) as u8;
-        file[8 + 2 * p] = (p % 20) as u8;
-        p += 1;
-    }
-    file
-}
-
 // An order file of 65,535 pairs: the four of F4, then one whose lot and call are given, then (0, 0).
 fn longest(fifth: u8) -> [u8; 131077]
     ensures { λ r. ⌜ 131077 ≡ length r ⌝ }
 {
     let mut file = [0u8; 131077];
-    file[0] = b'C';
-    file[1] = b'L';
-    file[2] = b'O';
-    file[3] = 1;
-    file[5] = 255;
-    file[6] = 255;
     file[8] = 1;
     file[9] = 1;
     file[13] = 1;
     file[14] = 1;
     file[15] = fifth;
     file[16] = fifth;
+    files::write_opening(&mut file, &files::ORDER_MARK, 65535);
     file
 }
 
-// The bytes of the count of pairs.
+// The rows of a book of 15 lots and 20 calls, all eligible at cost 0, and its 300 pairs lot by lot.
+fn fill_300(book: &mut [u8], order: &mut [u8]) {
+    let mut p: usize = 0;
+    while p < 300 {
+        let row = 7 + 84 * (p / 20);
+        put(book, row, 255);
+        put(book, row + 1, 255);
+        put(book, row + 2, 15);
+        put(order, 7 + 2 * p, (p / 20) as u8);
+        put(order, 8 + 2 * p, (p % 20) as u8);
+        p += 1;
+    }
+}
+
+// The bytes of the count of pairs: 300 is 44 and 1.
 fn show_counts() {
-    let book = book_of_300();
-    show(b"300 pairs", &book, &order_of_300(44, 1));
-    show(
-        b"300 pairs, the count's bytes exchanged",
-        &book,
-        &order_of_300(1, 44),
-    );
+    let mut book = [0u8; 1267];
+    let mut order = [0u8; 607];
+    open_book(&mut book, 15, 20);
+    fill_300(&mut book, &mut order);
+    files::write_opening(&mut order, &files::ORDER_MARK, 300);
+    show(b"300 pairs", &book, &order);
+    order[5] = 1;
+    order[6] = 44;
+    show(b"300 pairs, the count's bytes exchanged", &book, &order);
 }
 
 // A file's length against its count of pairs.
@@ -251,12 +225,7 @@ fn show_pairs_met() {
 // Two blocks of pairs: in lots 0 and 1 a cost sum is too high, in lots 2 and 3 a pair is not eligible.
 fn show_blocks() {
     let mut book = [0u8; 51];
-    book[0] = b'C';
-    book[1] = b'L';
-    book[2] = b'B';
-    book[3] = 1;
-    book[5] = 4;
-    book[6] = 4;
+    open_book(&mut book, 4, 4);
     book[7] = 3;
     book[11] = 1;
     book[19] = 3;
@@ -278,12 +247,7 @@ fn show_blocks() {
 // 22 lots and 7 calls, eligible (0, 0), (0, 3), (10, 0), (10, 3), (10, 6) and (21, 3): (10, 3) fails with (0, 6) and with (21, 0).
 fn show_far_failures() {
     let mut book = [0u8; 119];
-    book[0] = b'C';
-    book[1] = b'L';
-    book[2] = b'B';
-    book[3] = 1;
-    book[5] = 22;
-    book[6] = 7;
+    open_book(&mut book, 22, 7);
     book[7] = 9;
     book[55] = 73;
     book[111] = 8;

@@ -7,7 +7,7 @@ use native.Mathlib.Numerals.{add-one}
 use native.Mathlib.Omega.{arith}
 use lib.ListN.{length, take, drop, set, length-append, length-set}
 use lib.Seq.{take-suc-set, drop-set-lt, drop-drop}
-use Rattle.placer.specs.Rendering.{Appended, Room, Within}
+use Rattle.placer.specs.Rendering.{Appended, Room, AppendedWithin}
 
 pub append-none : (at : ℕ) (l : List ℕ) → Appended at l [] at l
 append-none at l = record { ends = omega arith; text = sym (append-nil _); kept = refl; long = refl }
@@ -39,9 +39,9 @@ room-first p q room = record { fits = omega (arith, room .fits, length-append p 
 pub room-rest : {at r : ℕ} {old new p : List ℕ} (q : List ℕ) → Room old at (p ++ q) → Appended at old p r new → Room new r q
 room-rest {at} {r} {old} {new} {p} q room a = record { fits = omega (arith, room .fits, a .ends, a .long, length-append p q) }
 
-pub within-of : {most at r : ℕ} {old new p : List ℕ} → Appended at old p r new → length p ≤ most → Within most at old p r new
+pub within-of : {most at r : ℕ} {old new p : List ℕ} → Appended at old p r new → length p ≤ most → AppendedWithin most at old p r new
 within-of a short = record { appended = a; within = omega arith }
 
-pub within-more : {a b most at r s : ℕ} {old mid new p q : List ℕ} → Within a at old p r mid → Within b r mid q s new → a + b ≤ most
-    → Within most at old (p ++ q) s new
+pub within-more : {a b most at r s : ℕ} {old mid new p q : List ℕ} → AppendedWithin a at old p r mid → AppendedWithin b r mid q s new → a + b ≤ most
+    → AppendedWithin most at old (p ++ q) s new
 within-more f g h = record { appended = append-more (f .appended) (g .appended); within = omega arith }

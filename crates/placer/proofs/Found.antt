@@ -1,27 +1,23 @@
 -- What the search leaves in its array is what a run asks for. The search goes by the book's table of offsets, whose problem agrees with the
 -- book's own: so where it answers nothing the reply is 13, and where it answers a count, the array's front is the file of the finder's
 -- order. That file passes the check, and finding and running is the run by it.
-use mathlib.Core.Path.{_≡_, refl, sym, _∙_, ap}
-use mathlib.Core.List.{List, []}
+use mathlib.Core.Path.{_≡_, sym, _∙_, ap}
+use mathlib.Core.List.{List}
 use mathlib.Core.Option.{Option, some, none}
 use Prim.Native.Nat.{ℕ, _+_, _*_, _≤_}
 use native.Mathlib.Omega.{arith}
-use borrow.Author.Tests.{le-ltb}
 use lib.ListN.{length, take, drop}
 use Rattle.transport.specs.Greedy.{Pair}
 use Rattle.transport.specs.Finder.{find}
 use Rattle.transport.proofs.Orders.Length.{order-length}
 use Rattle.transport.proofs.Finder.Find.{find-is-order}
 use Rattle.transport.proofs.Finder.Same.{find-of-same}
-use Rattle.specification.specs.Reply.{Reply, gives, refuses, Size}
+use Rattle.specification.specs.Reply.{gives, Size}
 use Rattle.specification.specs.Book.{readBook, problemOf}
-use Rattle.specification.specs.Amounts.{readAmounts}
 use Rattle.specification.specs.OrderFile.{orderFile}
 use Rattle.specification.specs.Check.{checkOrder}
 use Rattle.specification.specs.Run.{runOrder, runFlow}
-use Rattle.specification.specs.Find.{orderOr13, foundToRun, findAndRun, findAndRunFlow}
-use Rattle.specification.proofs.Replies.{not-both}
-use Rattle.specification.proofs.AmountsFiles.{amounts-read}
+use Rattle.specification.specs.Find.{findAndRun, findAndRunFlow}
 use Rattle.specification.proofs.Books.{size-within, book-read}
 use Rattle.specification.proofs.Checks.{check-passes}
 use Rattle.specification.proofs.Finds.{found-passes}
@@ -34,16 +30,6 @@ use Rattle.finder.specs.Writing.{Orders}
 use Rattle.finder.specs.declared.inner.Search.{Search}
 use Rattle.finder.specs.declared.inner.Search.the-variants.{Found, Nothing}
 use Rattle.finder.proofs.Books.{states-same}
-
--- where the amounts are read, so is their book, with the same counts
-pub book-reads : (book amounts : List ℕ) (size : Size) → readAmounts book amounts ≡ gives size → readBook book ≡ gives size
-unfolding readAmounts
-book-reads book amounts size read = by-book (readBook book) refl
-  where
-    by-book : (r : Reply Size) → readBook book ≡ r → readBook book ≡ gives size
-    by-book (gives n) e =
-        e ∙ ap gives (book-read book n e .sizes ∙ sym (amounts-read book amounts size read .0 .sizes))
-    by-book (refuses k vs) e = absurd (not-both {k = k} {vs = vs} read (rw e refl))
 
 -- the first bytes of the array are the file of the finder's order, which has `count` pairs
 pub record IsFile (book after : List ℕ) (count : ℕ) : Type 0 where

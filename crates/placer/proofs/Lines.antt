@@ -2,8 +2,7 @@
 -- 29 for a refusal. So the text always fits: 48 + 17 · 1,024 is 17,456.
 use mathlib.Core.Path.{_≡_}
 use mathlib.Core.List.{List, [], _∷_}
-use Prim.Native.Nat.{ℕ, zero, suc, _+_, _*_, _/_, _%_, _^_, _≤_, _<_}
-use native.Mathlib.Nat.{mul-zero, mod-lt, div-lt-iff-lt-mul}
+use Prim.Native.Nat.{ℕ, _+_, _^_, _≤_, _<_}
 use native.Mathlib.Omega.{arith}
 use lib.ListN.{length, length-append}
 use Rattle.specification.specs.Text.{decimal, line}
@@ -40,14 +39,3 @@ first-line-length word units cost hw hu hc =
 
 pub refused-line-length : (word : List ℕ) (k : ℕ) → length word ≤ 7 → k < 2 ^ 64 → length (line word (decimal k ∷ [])) ≤ 29
 refused-line-length word k hw hk = omega (arith, two-fields word (decimal k), digits-length 20 19 k (omega arith))
-
--- entry k of a flow of n lots and m calls is that of lot k / m and call k % m
-pub some-calls : (n m k : ℕ) → k < n * m → 0 < m
-some-calls n zero k h = absurd (omega (arith, mul-zero n))
-some-calls n (suc m) k h = omega arith
-
-pub lot-in : (n m k : ℕ) → k < n * m → k / m < n
-lot-in n m k h = div-lt-iff-lt-mul (some-calls n m k h) .1 h
-
-pub call-in : (n m k : ℕ) → k < n * m → k % m < m
-call-in n m k h = mod-lt k (some-calls n m k h)

@@ -16,9 +16,9 @@ use Rattle.specification.specs.Find.{foundToRun, findAndRun, findAndRunFlow}
 use Rattle.specification.specs.Text.{line, decimal, verdictWord, refusedWord, textOf, printed}
 use Rattle.specification.proofs.Replies.{not-both}
 use Rattle.specification.proofs.AmountsFiles.{amounts-read}
-use Rattle.placer.specs.Rendering.{Within, answerOf, CountsFit, Rendered, Prints}
+use Rattle.placer.specs.Rendering.{AppendedWithin, answerText, CountsFit, Rendered, Prints}
 
-pub rendered : {most r : ℕ} {old new piece : List ℕ} (placed : Placed) (n m : ℕ) (flow : List ℕ) → Within most 0 old piece r new
+pub rendered : {most r : ℕ} {old new piece : List ℕ} (placed : Placed) (n m : ℕ) (flow : List ℕ) → AppendedWithin most 0 old piece r new
     → most ≤ 17456 → ((P : Problem) → P .lots ≡ n → P .calls ≡ m → piece ≡ textOf (statedPlaced placed) P flow)
     → Rendered placed n m flow old r new
 rendered placed n m flow w short is-text = record {
@@ -29,7 +29,7 @@ rendered placed n m flow w short is-text = record {
 }
 
 pub given-text : (o : Outcome) (n m : ℕ) (flow : List ℕ) (P : Problem) → P .lots ≡ n → P .calls ≡ m
-    → answerOf (verdictWord (o .verdict)) (o .units) (o .cost) n m flow ≡ textOf (gives o) P flow
+    → answerText (verdictWord (o .verdict)) (o .units) (o .cost) n m flow ≡ textOf (gives o) P flow
 unfolding textOf
 given-text o n m flow P lots calls = rw (← lots, ← calls)
 

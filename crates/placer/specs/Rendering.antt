@@ -24,7 +24,7 @@ pub record Room (out : List ℕ) (at : ℕ) (piece : List ℕ) : Type 0 where
   pub fits : at + length piece ≤ length out
 
 -- appended, in at most so many bytes
-pub record Within (most at : ℕ) (old piece : List ℕ) (r : ℕ) (new : List ℕ) : Type 0 where
+pub record AppendedWithin (most at : ℕ) (old piece : List ℕ) (r : ℕ) (new : List ℕ) : Type 0 where
   pub appended : Appended at old piece r new
   pub within : r ≤ at + most
 
@@ -33,8 +33,8 @@ abbrev pub lineOf : ℕ → ℕ → ℕ → List ℕ
 lineOf i j units = cond (eqb units 0) [] (line (decimal i) (decimal j ∷ decimal units ∷ []))
 
 -- an answer that is no refusal, with its verdict's word
-abbrev pub answerOf : List ℕ → ℕ → ℕ → ℕ → ℕ → List ℕ → List ℕ
-answerOf verdict units cost n m flow = line verdict (decimal units ∷ decimal cost ∷ []) ++ pairLines m flow (n * m)
+abbrev pub answerText : List ℕ → ℕ → ℕ → ℕ → ℕ → List ℕ → List ℕ
+answerText verdict units cost n m flow = line verdict (decimal units ∷ decimal cost ∷ []) ++ pairLines m flow (n * m)
 
 -- where the answer is no refusal, n and m are counts of lots and of calls
 abbrev pub CountsFit : Placed → ℕ → ℕ → Type 0

@@ -8,7 +8,7 @@ ghost use mathlib.Core.List.{[], _∷_};
 ghost use Prim.Native.Nat.{_+_, _*_, _≤_, _<_};
 ghost use lib.ListN.{length, take};
 ghost use Rattle.specification.specs.Text.{decimal, line, refusedWord, pairLines};
-ghost use Rattle.placer.specs.Rendering.{Appended, Room, Within, lineOf, answerOf, CountsFit, Rendered};
+ghost use Rattle.placer.specs.Rendering.{Appended, Room, AppendedWithin, lineOf, answerText, CountsFit, Rendered};
 
 // One byte.
 fn put(out: &mut [u8], at: usize, byte: u8) -> usize
@@ -75,7 +75,7 @@ fn last_two(out: &mut [u8], at: usize, a: u64, b: u64) -> usize
 // The line of a pair, if it has units: lot, call, units.
 fn pair_line(out: &mut [u8], at: usize, lot: Lot, call: Call, units: u32) -> usize
     requires { ⌜ (lot .0 < 32) × (call .0 < 32) × (at + 17 ≤ length (now out)) ⌝ }
-    ensures { λ r. ⌜ Within 17 at (now (out .entry)) (lineOf (lot .0) (call .0) units) r (now (out .exit)) ⌝ }
+    ensures { λ r. ⌜ AppendedWithin 17 at (now (out .entry)) (lineOf (lot .0) (call .0) units) r (now (out .exit)) ⌝ }
 {
     let i = lot.0;
     let j = call.0;
@@ -89,7 +89,7 @@ fn pair_line(out: &mut [u8], at: usize, lot: Lot, call: Call, units: u32) -> usi
 // The lines of the first n times m entries of a flow, by lot and then call.
 fn pair_lines(out: &mut [u8], at: usize, n: usize, m: usize, flow: &[u32; 1024]) -> usize
     requires { ⌜ (n ≤ 32) × (m ≤ 32) × (at + 17408 ≤ length (now out)) ⌝ }
-    ensures { λ r. ⌜ Within 17408 at (now (out .entry)) (pairLines m (now (flow .entry)) (n * m)) r (now (out .exit)) ⌝ }
+    ensures { λ r. ⌜ AppendedWithin 17408 at (now (out .entry)) (pairLines m (now (flow .entry)) (n * m)) r (now (out .exit)) ⌝ }
 {
     let cells = n * m;
     let mut next = at;
@@ -102,7 +102,7 @@ fn pair_lines(out: &mut [u8], at: usize, n: usize, m: usize, flow: &[u32; 1024])
 }
 
 // The text of an answer that is no refusal: the first line, and the pairs' lines.
-fn answer(
+fn answer_text(
     out: &mut [u8],
     verdict: &[u8],
     units: u64,
@@ -113,7 +113,7 @@ fn answer(
 ) -> usize
     requires { ⌜ (n ≤ 32) × (m ≤ 32) × (17456 ≤ length (now out)) × (length (now verdict) ≤ 5) ⌝ }
     ensures { λ r.
-        ⌜ Within 17456 0 (now (out .entry)) (answerOf (now (verdict .entry)) units cost n m (now (flow .entry))) r
+        ⌜ AppendedWithin 17456 0 (now (out .entry)) (answerText (now (verdict .entry)) units cost n m (now (flow .entry))) r
         (now (out .exit)) ⌝ }
 {
     let first = word(out, 0, verdict);
@@ -124,7 +124,7 @@ fn answer(
 // The text of a refusal: its number.
 fn refusal(out: &mut [u8], k: u64) -> usize
     requires { ⌜ 29 ≤ length (now out) ⌝ }
-    ensures { λ r. ⌜ Within 29 0 (now (out .entry)) (line refusedWord (decimal k ∷ [])) r (now (out .exit)) ⌝ }
+    ensures { λ r. ⌜ AppendedWithin 29 0 (now (out .entry)) (line refusedWord (decimal k ∷ [])) r (now (out .exit)) ⌝ }
 {
     let next = word(out, 0, b"REFUSED");
     last_field(out, next, k)
@@ -136,8 +136,8 @@ pub fn render(placed: Placed, n: usize, m: usize, flow: &[u32; 1024], out: &mut 
     ensures { λ r. ⌜ Rendered placed n m (now (flow .entry)) (now (out .entry)) r (now (out .exit)) ⌝ }
 {
     match placed {
-        Placed::Full(units, cost) => answer(out, b"FULL", units, cost, n, m, flow),
-        Placed::Short(units, cost) => answer(out, b"SHORT", units, cost, n, m, flow),
+        Placed::Full(units, cost) => answer_text(out, b"FULL", units, cost, n, m, flow),
+        Placed::Short(units, cost) => answer_text(out, b"SHORT", units, cost, n, m, flow),
         Placed::Refused(r) => refusal(out, files::number(r)),
     }
 }

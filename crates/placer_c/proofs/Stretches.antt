@@ -1,4 +1,4 @@
--- A lot's costs follow the word that its row starts with: `Standing` says where. A stretch that is not empty is of a readable book and a
+-- A lot's costs follow the word that its row starts with: `CostsStand` says where. A stretch that is not empty is of a readable book and a
 -- lot of it.
 use mathlib.Core.Path.{_≡_, refl, sym}
 use mathlib.Core.Bool.{Bool, true, false}
@@ -16,12 +16,12 @@ use Rattle.book.specs.Pairs.{readable, rowStart}
 use Rattle.book.proofs.Readable.{counts-are}
 use Rattle.book.proofs.Rows.{row-is, row-inside}
 
-pub empty : (l : List ℕ) → length l ≡ 0 → l ≡ []
-empty [] e = refl
-empty (x ∷ l) e = absurd (omega arith)
+pub nil-of-length : (l : List ℕ) → length l ≡ 0 → l ≡ []
+nil-of-length [] e = refl
+nil-of-length (x ∷ l) e = absurd (omega arith)
 
 -- the costs of a lot of a readable book
-pub record Standing (book : List ℕ) (lot : ℕ) : Type 0 where
+pub record CostsStand (book : List ℕ) (lot : ℕ) : Type 0 where
   pub is-readable : readable book ≡ true
   pub lot-in : lot < bookLots book
   pub inside : rowStart book lot + rowSize (rowAt book lot) ≤ length book
@@ -33,7 +33,7 @@ module _ (book : List ℕ) (lot : ℕ) where
   in-book count = rw (row-is, drop-drop)
 
   of-lot : (size : Size) → readBook book ≡ gives size → (inner : Bool) → ltb lot (size .lots) ≡ inner
-      → (length (lotCosts book lot) ≡ 0 → ⊥) → Standing book lot
+      → (length (lotCosts book lot) ≡ 0 → ⊥) → CostsStand book lot
   unfolding lotCosts
   of-lot size e false outside some = absurd (some (rw (e, outside)))
   of-lot size e true inner some =
@@ -50,7 +50,7 @@ module _ (book : List ℕ) (lot : ℕ) where
         stretch = rw long (sym costs);
       }
 
-  pub standing : (r : Reply Size) → readBook book ≡ r → (length (lotCosts book lot) ≡ 0 → ⊥) → Standing book lot
+  pub costs-stand : (r : Reply Size) → readBook book ≡ r → (length (lotCosts book lot) ≡ 0 → ⊥) → CostsStand book lot
   unfolding lotCosts
-  standing (refuses k vs) e some = absurd (some (rw e))
-  standing (gives size) e some = of-lot size e (ltb lot (size .lots)) refl some
+  costs-stand (refuses k vs) e some = absurd (some (rw e))
+  costs-stand (gives size) e some = of-lot size e (ltb lot (size .lots)) refl some

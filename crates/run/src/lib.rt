@@ -10,11 +10,11 @@ use specification::Refusal;
 ghost use mathlib.Core.Path.{_≡_};
 ghost use Rattle.specification.specs.Reply.{statedPlaced};
 ghost use Rattle.specification.specs.Run.{runOrder, runFlow};
-ghost use Rattle.run.specs.Run.{refusalOf};
+ghost use Rattle.run.specs.Run.{checkRefusal};
 
 // The refusal of a check that is one, as after `let Checked::Passes(count) = checked else`; of a count, which holds none, the first cause.
-fn refusal_of(checked: Checked) -> Refusal
-    ensures { λ r. ⌜ r ≡ refusalOf checked ⌝ }
+fn check_refusal(checked: Checked) -> Refusal
+    ensures { λ r. ⌜ r ≡ checkRefusal checked ⌝ }
 {
     match checked {
         Checked::Refused(r) => r,
@@ -35,7 +35,7 @@ pub fn run_order(book: &[u8], order: &[u8], amounts: &[u8], flow: &mut [u32]) ->
     let offsets = book::inner::offsets(book, n);
     let checked = order::inner::check_by(book, &offsets, n, m, order);
     let Checked::Passes(count) = checked else {
-        return Placed::Refused(refusal_of(checked));
+        return Placed::Refused(check_refusal(checked));
     };
     let read = amounts::inner::read_of(n, m, amounts);
     let Counts::Are(_, _) = read else {

@@ -7,7 +7,7 @@ ghost use mathlib.Core.Path.{_≡_};
 ghost use mathlib.Core.List.{_++_};
 ghost use Prim.Native.Nat.{_≤_};
 ghost use lib.ListN.{length, drop, replicate};
-ghost use Rattle.run.specs.Run.{Placeable, PlacedPair, Runnable, Ran, pairsOf};
+ghost use Rattle.run.specs.Run.{Placeable, PlacedPair, Runnable, RanPairs, pairsOf};
 
 // Sets the first `cells` entries to 0.
 pub fn clear(flow: &mut [u32], cells: usize)
@@ -44,7 +44,7 @@ pub fn run_pairs(
     flow: &mut [u32],
 ) -> Remaining
     requires { ⌜ Runnable (now order) count n m remaining (length (now flow)) ⌝ }
-    ensures { λ r. ⌜ Ran (pairsOf (now (order .entry)) count) n m remaining (now (flow .entry)) r (now (flow .exit)) ⌝ }
+    ensures { λ r. ⌜ RanPairs (pairsOf (now (order .entry)) count) n m remaining (now (flow .entry)) r (now (flow .exit)) ⌝ }
 {
     let mut state = remaining;
     let mut turn: usize = 0;

@@ -7,7 +7,7 @@ use Prim.Native.Nat.{ℕ}
 use lib.ListN.{replicate, take}
 use lib.Count.{ones, onesIn}
 use Rattle.transport.specs.Problem.{sum}
-use Rattle.transport.specs.Greedy.{Pair, giveAll}
+use Rattle.transport.specs.Greedy.{Pair, pair, giveAll}
 use Rattle.transport.specs.Order.{times}
 use Rattle.transport.specs.Finder.{every, first, takeFrom}
 use Rattle.specification.specs.Reply.{gives, refuses, full}
@@ -19,7 +19,7 @@ use Rattle.specification.specs.Amounts.{readAmountsOf, readAmounts}
 use Rattle.specification.specs.Run.{tabulate, flowOf, runOrder, runFlow}
 use Rattle.specification.specs.Find.{foundOrder, findOrder, findBuffer, foundToRun, findAndRun, findAndRunFlow}
 use Rattle.specification.specs.Text.{digits, line, pairLines, textOf, printed}
-use Rattle.specification.specs.Examples.{words, book, amounts, pair, book1235, amounts5436, bookGap, bookDiagonal}
+use Rattle.specification.specs.Examples.{words, book, amounts, book1235, amounts5436, bookGap, bookDiagonal}
 
 -- 1,000,000 and 1,000,001 as costs, 1,000,000,000 and 1,000,000,001 as amounts
 abbrev highestCost : List ℕ

@@ -13,7 +13,7 @@ use Rattle.transport.proofs.Laws.Tests.{and-says, and-of}
 use Rattle.transport.proofs.Laws.Searches.{every-says, every-fails}
 use Rattle.specification.specs.Reply.{gives, refuses, Size}
 use Rattle.specification.specs.Bytes.{byteAt, amountsMark}
-use Rattle.specification.specs.Book.{bookLots, bookCalls, problemOf}
+use Rattle.specification.specs.Book.{bookLots, bookCalls, readBook, problemOf}
 use Rattle.specification.specs.Amounts.{amountLimit, amountAt, lotAmount, callAmount, readAmountsOf, readAmounts}
 use Rattle.specification.proofs.Replies.{
   Says,
@@ -108,6 +108,10 @@ amounts-say book s =
 
 pub amounts-read : (book s : List ℕ) (n : Size) → readAmounts book s ≡ gives n → BookRead book n × AmountsRead n s
 amounts-read book s n e = said-of-given (amounts-say book s) n e
+
+-- their book is read, with the same counts
+pub book-of-amounts : (book s : List ℕ) (n : Size) → readAmounts book s ≡ gives n → readBook book ≡ gives n
+book-of-amounts book s n e = book-reads book n (amounts-read book s n e .0)
 
 -- refused amounts: what the number says
 pub amounts-refused : (book s : List ℕ) (k : ℕ) (vs : List ℕ) → readAmounts book s ≡ refuses k vs → AmountsOrBookRefused book s k vs

@@ -31,8 +31,8 @@ use Rattle.specification.proofs.Replies.{
   says-if,
   neither-of-or,
 }
-use Rattle.specification.proofs.Rows.{Opened, OpeningRefused, opened-not-refused, RowRead, RowRefused, row-read-not-refused}
-pub use Rattle.specification.proofs.Rows.{opening-says, row-says}
+use Rattle.specification.proofs.Rows.{Opened, OpeningRefused, opening-says, opened-not-refused}
+use Rattle.specification.proofs.Rows.{RowRead, RowRefused, row-says, row-read-not-refused}
 
 -- the rows of the lots below i are read
 abbrev RowsRead : List ℕ → ℕ → Type 0

@@ -20,8 +20,7 @@ use Rattle.specification.specs.Run.{greedyOn, outcome, flowTooShort, run
 use Rattle.specification.specs.Find.{orderLength, orderOr13, foundOrder, findOrder, foundToRun, findAndRun, findAndRunFlow}
 use Rattle.specification.specs.Demands.{InTable, Readable}
 use Rattle.specification.proofs.Replies.{Says, giving, not-both, gives-less, says-known, says-then, says-unless, says-afterwards}
-use Rattle.specification.proofs.AmountsFiles.{AmountsOrBookRefused, amounts-say, amounts-read}
-use Rattle.specification.proofs.Books.{book-reads}
+use Rattle.specification.proofs.AmountsFiles.{AmountsOrBookRefused, amounts-say, amounts-read, book-of-amounts}
 use Rattle.specification.proofs.Lines.{amounts-in-table}
 use Rattle.specification.proofs.Checks.{check-passes}
 use Rattle.specification.proofs.OrderFiles.{order-back}
@@ -131,5 +130,4 @@ no-order-of-13 book buffer n reads e = by-length (ltb (length buffer) (orderLeng
 pub find-and-run-refused-13 : (book buffer : List ℕ) → findOrder book buffer ≡ refuses 13 [] → (amounts flow : List ℕ) (n : Size)
     → readAmounts book amounts ≡ gives n → n .lots * n .calls ≤ length flow → findAndRun book amounts flow ≡ refuses 13 []
 find-and-run-refused-13 book buffer e amounts flow n read long =
-    let reads = book-reads book n (amounts-read book amounts n read .0) in
-    sym (none-refused book amounts flow n read long (no-order-of-13 book buffer n reads e) .0)
+    sym (none-refused book amounts flow n read long (no-order-of-13 book buffer n (book-of-amounts book amounts n read) e) .0)

@@ -5,7 +5,7 @@ use Prim.Native.Nat.{ℕ, suc}
 use lib.ListN.{replicate}
 use lib.Count.{ones, onesIn}
 use Rattle.transport.specs.Problem.{sum}
-use Rattle.transport.specs.Greedy.{Pair, giveAll}
+use Rattle.transport.specs.Greedy.{Pair, pair, giveAll}
 use Rattle.transport.specs.Order.{times}
 use Rattle.transport.specs.Finder.{every, first, takeFrom}
 use Rattle.specification.specs.Reply.{Reply, gives, refuses, Verdict, full, short}
@@ -34,10 +34,6 @@ book n m fields = bookMark ++ (1 ∷ 0 ∷ n ∷ m ∷ words fields)
 -- an amounts file likewise
 abbrev pub amounts : ℕ → ℕ → List ℕ → List ℕ
 amounts n m fields = amountsMark ++ (1 ∷ 0 ∷ n ∷ m ∷ words fields)
-
--- the pair that document 01 writes as its two digits, 01 for lot 0 with call 1
-abbrev pub pair : ℕ → ℕ → Pair
-pair i j = record { lot = i; call = j }
 
 -- the book of F1 to F4: 2 by 2, costs 1 2 / 3 5
 abbrev pub book1235 : List ℕ
@@ -84,7 +80,7 @@ text5436 = 70 ∷ 85 ∷ 76 ∷ 76 ∷ 32 ∷ 57 ∷ 32 ∷ 50 ∷ 52 ∷ 10
     ∷ 49 ∷ 32 ∷ 49 ∷ 32 ∷ 49 ∷ 10
     ∷ []
 
--- F1 to F11, and the text printed on F1
+-- F1 to F11, and the text printed on F1; document 01 writes a pair as its two digits, 01 for lot 0 with call 1
 pub record KnownExamples : Type 0 where
   pub f1-found : Finds book1235 (pair 0 1 ∷ pair 0 0 ∷ pair 1 0 ∷ pair 1 1 ∷ []) 15
   pub f1-placed : Places book1235 amounts5436 full 9 24 (9 ∷ 9 ∷ 9 ∷ 9 ∷ 9 ∷ []) (0 ∷ 5 ∷ 3 ∷ 1 ∷ 9 ∷ [])

@@ -2,7 +2,7 @@
 use mathlib.Core.List.{List, [], _∷_, _++_}
 use Prim.Native.Nat.{ℕ, zero, suc, _/_, _%_}
 use lib.ListN.{length, drop}
-use Rattle.transport.specs.Greedy.{Pair}
+use Rattle.transport.specs.Greedy.{Pair, pair}
 use Rattle.specification.specs.Bytes.{byteAt, u16At, orderMark}
 
 -- "Bytes 5 and 6: the count of pairs, 16 bits"
@@ -12,7 +12,7 @@ orderCount s = u16At s 5
 -- the first n pairs of a list of bytes: "two bytes a pair: lot, call"
 unfoldable pub pairs : ℕ → List ℕ → List Pair
 pairs zero s = []
-pairs (suc n) s = record { lot = byteAt s 0; call = byteAt s 1 } ∷ pairs n (drop 2 s)
+pairs (suc n) s = pair (byteAt s 0) (byteAt s 1) ∷ pairs n (drop 2 s)
 
 -- the pairs of an order file
 abbrev pub orderPairs : List ℕ → List Pair

@@ -1,4 +1,4 @@
--- `book::is_outside` meets its contract.
+-- `book::is_outside` meets its contract: each test that fails or passes decides its half of `countOutside`.
 use borrow.Author.Tests.{eq-eqb, ne-eqb}
 use Rattle.book.proofs.is_outside.Statement.{statement}
 use Rattle.book.proofs.is_outside.Tie as tie

@@ -9,7 +9,7 @@ use Rattle.specification.specs.Reply.{gives, _>>=_}
 use Rattle.specification.specs.Bytes.{bookMark, readOpening}
 use Rattle.specification.specs.Book.{readRows, bookLots, bookCalls, countOutside, readBook}
 use Rattle.specification.proofs.Replies.{said-of-given}
-use Rattle.specification.proofs.Books.{opening-says}
+use Rattle.specification.proofs.Rows.{opening-says}
 use Rattle.files.specs.Files.{statedStep}
 use Rattle.files.proofs.Parts.{rest-is}
 use Rattle.book.proofs.read_book.Statement.{statement}

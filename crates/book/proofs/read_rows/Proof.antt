@@ -12,7 +12,7 @@ use lib.Seq.{drop-drop}
 use Rattle.specification.specs.Reply.{Reply, refuseIf, _>>=_}
 use Rattle.specification.specs.Book.{rowSize, readRow, readRows}
 use Rattle.specification.proofs.Replies.{said-of-given}
-use Rattle.specification.proofs.Books.{row-says}
+use Rattle.specification.proofs.Rows.{row-says}
 use Rattle.files.specs.Files.{statedStep}
 use Rattle.files.proofs.Parts.{rest-is}
 use Rattle.book.proofs.Rows.{rows-step, rows-end}

@@ -1,23 +1,16 @@
--- `orders::show_pairs` meets its contract. The invariant: the file keeps its length.
+-- `orders::show_pairs` is safe and ends: 100 pairs are not passed, and one less is left. The file keeps its length.
 use mathlib.Core.Path.{_≡_}
 use Prim.Native.Nat.{_≤_, _-_}
-use native.Mathlib.Omega.{arith}
 use borrow.Author.Needs.{needs}
-use lib.ListN.{length, length-set}
+use lib.ListN.{length}
 use Rattle.orders.proofs.show_pairs.Statement.{statement}
 use Rattle.orders.proofs.show_pairs.Tie as tie
 
 abbrev Inv-loop : tie.InvT-loop
-Inv-loop label book pairs file₀ p₀ file p = (p ≤ 100) × (209 ≡ length file)
+Inv-loop label book pairs file₀ p₀ mark file p = (p ≤ 100) × (209 ≡ length file)
 
 abbrev μ-loop : tie.MeasureT-loop
-μ-loop label book pairs file₀ p₀ file p = 100 - p
-
-loop-holds : tie.Need-loop-holds Inv-loop μ-loop
-loop-holds c = (omega arith, simp length-set)
-
-loop-again : tie.Need-loop-again Inv-loop μ-loop
-loop-again c = (omega arith, simp length-set (omega arith))
+μ-loop label book pairs file₀ p₀ mark file p = 100 - p
 
 pub show-pairs-spec : {M : Type 1} → statement M
 show-pairs-spec =
@@ -29,8 +22,8 @@ show-pairs-spec =
     (λ c. search needs)
     (λ c. search needs)
     (λ c. search needs)
-    loop-holds
     (λ c. search needs)
+    (λ c κs. search needs)
     (λ c κs. search needs)
     (λ c. search needs)
     (λ c. search needs)
@@ -38,15 +31,14 @@ show-pairs-spec =
     (λ c. search needs)
     (λ c. search needs)
     (λ c κs. search needs)
+    (λ c κs. search needs)
     (λ c. search needs)
     (λ c. search needs)
     (λ c. search needs)
     (λ c. search needs)
     (λ c. search needs)
-    loop-again
     (λ c. search needs)
-    (λ c. search needs)
-    (λ c. search needs)
+    (λ c κs. search needs)
     (λ c. search needs)
     (λ c. search needs)
     (λ c. search needs)

@@ -13,11 +13,12 @@ use Rattle.specification.specs.Book.{readBook}
 use Rattle.specification.specs.Amounts.{readAmounts}
 use Rattle.specification.specs.Find.{foundToRun, findAndRun, findAndRunFlow}
 use Rattle.specification.proofs.Books.{size-within}
+use Rattle.specification.proofs.AmountsFiles.{book-of-amounts}
 use Rattle.book.proofs.Readable.{Read, counts-are}
 use Rattle.finder.proofs.Books.{states-same, stated}
 use Rattle.run.proofs.Supplied.{sizes-within, too-short, accepted, as-specified}
 use Rattle.specification.proofs.FindRuns.{none-refused}
-use Rattle.placer.proofs.Found.{book-reads, IsFile, none-found, file-found, file-passes, count-within, runs-file}
+use Rattle.placer.proofs.Found.{IsFile, none-found, file-found, file-passes, count-within, runs-file}
 use Rattle.placer.proofs.find_and_run.Statement.{statement}
 use Rattle.placer.proofs.find_and_run.Tie as tie
 
@@ -39,7 +40,7 @@ module _ (c : tie.After-known-told) where
   read = sym (c .before .before .before .read-amounts .ensures) ∙ ap statedCounts (c .before .counts .given .1)
 
   book-read : readBook book ≡ gives size
-  book-read = book-reads book _ size read
+  book-read = book-of-amounts book _ size read
 
   readable : Read book (size .lots) (size .calls)
   readable = counts-are _ (sym book-read)

@@ -3,13 +3,12 @@
 use borrow.Author.Needs.{needs}
 use borrow.Author.Tests.{ne-eqb}
 use mathlib.Core.Path.{_≡_, refl, sym, _∙_}
-use mathlib.Core.List.{List, []}
-use Prim.Native.Nat.{ℕ}
+use mathlib.Core.List.{[]}
 use native.Mathlib.Omega.{arith}
 use lib.ListN.{length}
 use Rattle.specification.specs.Book.{readBook, lotCosts}
 use Rattle.placer_c.specs.Answers.{stretchOf}
-use Rattle.placer_c.proofs.Stretches.{Standing, standing, empty}
+use Rattle.placer_c.proofs.Stretches.{CostsStand, costs-stand, nil-of-length}
 use Rattle.placer_c.proofs.placer_lot_costs.Statement.{statement}
 use Rattle.placer_c.proofs.placer_lot_costs.Tie as tie
 
@@ -17,7 +16,7 @@ returns : tie.Need-returns
 unfolding stretchOf
 returns c =
     let s = c .before .before .before in
-    let none : lotCosts (s .args .book .now) (s .args .lot) ≡ [] = sym (c .before .lot-costs .ensures) ∙ empty _ (c .if1 .taken) in
+    let none : lotCosts (s .args .book .now) (s .args .lot) ≡ [] = sym (c .before .lot-costs .ensures) ∙ nil-of-length _ (c .if1 .taken) in
     rw none (refl, refl)
 
 -- some costs are there
@@ -28,8 +27,8 @@ module _ (c : tie.Else1) where
   some : length (lotCosts (start .args .book .now) (start .args .lot)) ≡ 0 → ⊥
   some = rw (c .before .lot-costs .ensures) at (c .if1 .left)
 
-  stands : Standing (start .args .book .now) (start .args .lot)
-  stands = standing _ _ (readBook (start .args .book .now)) refl some
+  stands : CostsStand (start .args .book .now) (start .args .lot)
+  stands = costs-stand _ _ (readBook (start .args .book .now)) refl some
 
 row-at-requires : tie.Need-row-at-requires
 row-at-requires c κs = (stands c .is-readable, stands c .lot-in)

@@ -4,7 +4,6 @@ use mathlib.Core.Path.{_≡_, refl, sym, ap, _∙_}
 use mathlib.Core.List.{List}
 use Prim.Native.Nat.{ℕ, _*_, _≤_}
 use native.Mathlib.Nat.{mul-le-mul}
-use native.Mathlib.Omega.{arith}
 use borrow.Author.Needs.{needs}
 use Rattle.specification.specs.Reply.{Size, gives, statedChecked, statedCounts}
 use Rattle.specification.specs.Book.{readBook}
@@ -69,7 +68,7 @@ check-by-requires c κs = (reads (c .before .before), c .before .offsets .ensure
 returns-2 : tie.Need-returns-2
 unfolding runOrder runFlow
 returns-2 c =
-    simp (c .refusal-of2 .ensures, c .before .enum-told2 .given .1, sym (c .before .before .before .check-by .ensures))
+    simp (c .check-refusal .ensures, c .before .enum-told2 .given .1, sym (c .before .before .before .check-by .ensures))
     (refl, search needs)
 
 read-of-requires : tie.Need-read-of-requires
@@ -82,7 +81,7 @@ returns-3 c =
     simp (
       passes d,
       reads (told d),
-      c .refusal-of3 .ensures,
+      c .refusal-of2 .ensures,
       c .before .enum-told4 .given .1,
       sym (c .before .before .before .read-of .ensures),
     ) (refl, search needs)

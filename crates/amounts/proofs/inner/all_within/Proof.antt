@@ -1,48 +1,44 @@
 -- `amounts::inner::all_within` meets its contract. The invariant: every amount passed is within the limit.
-use mathlib.Core.Path.{_≡_, sym}
-use mathlib.Core.Bool.{true, false}
-use mathlib.Core.List.{List}
-use mathlib.Core.Logic.{⊎-elim}
-use Prim.Native.Nat.{ℕ, _-_, _≤_, _<_}
+use mathlib.Core.Path.{_≡_, refl, sym}
+use mathlib.Core.Bool.{true}
+use Prim.Native.Nat.{ℕ, _-_, _≤_}
 use native.Mathlib.Omega.{arith}
-use lib.Dec.{leb, le→leb, leb→le}
+use lib.Dec.{leb}
+use borrow.Author.Tests.{le-leb, lt-leb}
 use Rattle.transport.specs.Finder.{every}
-use Rattle.transport.proofs.Laws.Tests.{T-true, T-false}
-use Rattle.transport.proofs.Laws.Searches.{every-says, every-of}
+use Rattle.transport.proofs.Laws.Searches.{every-again, every-false}
 use Rattle.specification.specs.Amounts.{amountLimit, amountAt}
-use Rattle.files.proofs.Parts.{le-or-lt}
 use Rattle.amounts.proofs.inner.all_within.Statement.{statement}
 use Rattle.amounts.proofs.inner.all_within.Tie as tie
 
 abbrev Inv-loop : tie.InvT-loop
-Inv-loop amounts count k₀ k = (k ≤ count) × ((m : ℕ) → m < k → amountAt amounts m ≤ amountLimit)
+Inv-loop amounts count k₀ k = (k ≤ count) × (every k (λ i. leb (amountAt amounts i) amountLimit) ≡ true)
 
 abbrev μ-loop : tie.MeasureT-loop
 μ-loop amounts count k₀ k = count - k
 
-module _ (s : List ℕ) (count : ℕ) where
-  all-low : ((k : ℕ) → k < count → amountAt s k ≤ amountLimit) → every count (λ k. leb (amountAt s k) amountLimit) ≡ true
-  all-low low = T-true _ (every-of count _ (λ k h. le→leb (amountAt s k) amountLimit (low k h)))
-
-  one-high : (k : ℕ) → k < count → amountLimit < amountAt s k → every count (λ k. leb (amountAt s k) amountLimit) ≡ false
-  one-high k h high = T-false _ (λ t. omega (arith, high, leb→le (amountAt s k) amountLimit (every-says count _ t k h)))
-
 loop-holds : tie.Need-loop-holds Inv-loop μ-loop
-loop-holds c = (omega arith, λ m h. absurd (omega arith))
+unfolding every
+loop-holds c = (omega arith, refl)
+
+-- the amount at hand
+abbrev amount : (c : tie.After-amount-at Inv-loop μ-loop) → ℕ
+amount c = amountAt (c .before .before .before .before .args .amounts .now) (c .before .before .loop .k)
 
 returns : tie.Need-returns Inv-loop μ-loop
-returns c = sym (one-high _ _ _ (c .before .before .loop-test .taken) (rw (c .before .amount-at .ensures) at (c .if1 .taken)))
+returns c =
+    sym (every-false _ _ (c .before .before .before .loop .k) (c .before .before .loop-test .taken)
+    (lt-leb (amount (c .before)) amountLimit (omega (arith, c .before .amount-at .ensures))))
 
 loop-again : tie.Need-loop-again Inv-loop μ-loop
-loop-again c =
-    let l = c .before .before .before in
-    let low = rw (c .before .amount-at .ensures) at (c .if1 .left) in (
-      omega arith,
-      λ m h. ⊎-elim (λ (g : l .loop .k ≤ m). let e : m ≡ l .loop .k = omega arith in rw e low) (l .loop .inv .1 m) (le-or-lt (l .loop .k) m),
-    )
+loop-again c = (
+  omega arith,
+  every-again _ _ (c .before .before .before .loop .inv .1)
+      (le-leb (amount (c .before)) amountLimit (omega (arith, c .before .amount-at .ensures))),
+)
 
 returns-2 : tie.Need-returns-2 Inv-loop μ-loop
-returns-2 c = sym (all-low _ _ (λ m h. c .before .loop .inv .1 m (omega (arith, c .loop-test .left))))
+returns-2 c = let e : c .before .loop .k ≡ c .before .before .before .args .count = omega arith in sym (rw e at (c .before .loop .inv .1))
 
 pub all-within-spec : {M : Type 1} → statement M
 all-within-spec =

@@ -1,4 +1,4 @@
--- `book::inner::cost_at` meets its contract.
+-- `book::inner::cost_at` meets its contract: four bytes, each times its power of 256, are two halves of two bytes.
 use borrow.Author.Needs.{needs}
 use native.Mathlib.Omega.{arith}
 use Rattle.specification.specs.Bytes.{u16At, u32At}

@@ -1,4 +1,4 @@
--- `book::inner::cost_of` meets its contract.
+-- `book::inner::cost_of` meets its contract: an entry of the table is a place that the book has.
 use borrow.Author.Needs.{needs}
 use Prim.Native.Nat.{_+_, _*_}
 use native.Mathlib.Omega.{arith}

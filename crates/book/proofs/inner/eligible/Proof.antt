@@ -1,4 +1,4 @@
--- `book::inner::eligible` meets its contract.
+-- `book::inner::eligible` meets its contract: the tests that led to each `return` are those of `admitsBy`.
 use borrow.Author.Needs.{needs}
 use borrow.Author.Tests.{lt-ltb, le-ltb}
 use Rattle.book.proofs.inner.eligible.Statement.{statement}

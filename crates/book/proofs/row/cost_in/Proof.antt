@@ -10,7 +10,7 @@ few : (c : tie.After-count-below) → c .count-below .result ≤ 32
 few c = rw (c .count-below .ensures) (ones-below-le _ _ (c .before .u32-at .ok))
 
 returns : tie.Need-returns
-returns c = cc
+returns c = rw (c .u32-at2 .ensures, c .before .count-below .ensures, c .before .before .u32-at .ensures)
 
 pub cost-in-spec : {M : Type 1} → statement M
 cost-in-spec =

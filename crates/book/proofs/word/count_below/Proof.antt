@@ -1,4 +1,4 @@
--- `book::word::count_below` meets its contract.
+-- `book::word::count_below` meets its contract: below bit 32 the word is cut by the power of two, and from 32 on nothing of it is cut.
 use borrow.Author.Needs.{needs}
 use mathlib.Core.Path.{sym, ap, _∙_}
 use native.Mathlib.Nat.{mod-eq-of-lt}

@@ -1,4 +1,4 @@
--- `book::word::is_set` meets its contract.
+-- `book::word::is_set` meets its contract: a word of 32 bits has no bit from 32 on.
 use borrow.Author.Needs.{needs}
 use mathlib.Core.Path.{sym}
 use Rattle.book.proofs.Bits.{bit-past, below-power}

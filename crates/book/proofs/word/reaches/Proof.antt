@@ -1,4 +1,4 @@
--- `book::word::reaches` meets its contract.
+-- `book::word::reaches` meets its contract: the shifted 1 is the power of two, and a word of 32 bits is below every power from 2 ^ 32 on.
 use borrow.Author.Needs.{needs}
 use mathlib.Core.Path.{sym}
 use borrow.Author.Tests.{lt-leb}

@@ -1,4 +1,4 @@
--- `order::inner::answered` meets its contract.
+-- `order::inner::answered` meets its contract: the count comes after a step that passes, and nothing after a refusal.
 use mathlib.Core.Path.{sym}
 use borrow.Author.Needs.{needs}
 use Rattle.order.proofs.Replies.{goes-on, stops}

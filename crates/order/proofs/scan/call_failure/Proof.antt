@@ -1,4 +1,4 @@
--- `order::scan::call_failure` meets its contract.
+-- `order::scan::call_failure` meets its contract: the test of the place chooses the case of `callAt`.
 use mathlib.Core.Path.{_∙_}
 use Prim.Native.Nat.{_+_}
 use native.Mathlib.Omega.{arith}

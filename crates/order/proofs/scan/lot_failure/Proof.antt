@@ -3,6 +3,7 @@ use mathlib.Core.Path.{_≡_, sym, _∙_}
 use Prim.Native.Nat.{ℕ, _≤_, _<_, _-_}
 use native.Mathlib.Omega.{arith}
 use borrow.Author.Needs.{needs}
+use Rattle.transport.specs.Greedy.{pair}
 use Rattle.specification.specs.Check.{inTurn}
 use Rattle.files.specs.Files.{statedStep}
 use Rattle.order.specs.Answers.{quadrupleAt}
@@ -13,8 +14,8 @@ use Rattle.order.proofs.scan.lot_failure.Tie as tie
 abbrev Inv-loop : tie.InvT-loop
 Inv-loop book offsets places m place i j k l₀ l =
     (l ≤ m)
-    × ((n : ℕ) → k .0 < n → inTurn m 0 (quadrupleAt book offsets places n m place (record { lot = i .0; call = j .0 }) (k .0))
-    ≡ inTurn (m - l) l (quadrupleAt book offsets places n m place (record { lot = i .0; call = j .0 }) (k .0)))
+    × ((n : ℕ) → k .0 < n → inTurn m 0 (quadrupleAt book offsets places n m place (pair (i .0) (j .0)) (k .0))
+    ≡ inTurn (m - l) l (quadrupleAt book offsets places n m place (pair (i .0) (j .0)) (k .0)))
 
 abbrev μ-loop : tie.MeasureT-loop
 μ-loop book offsets places m place i j k l₀ l = m - l
@@ -23,7 +24,7 @@ returns : tie.Need-returns Inv-loop μ-loop
 returns c =
     let a = c .before .before .before .args in
     λ n hk. sym (turn-gives _ (a .m) 0 (λ l h. not-later (a .book .now) (a .offsets .now) (a .places .now) n (a .m) (a .place)
-    (record { lot = a .i .0; call = a .j .0 }) (a .k .0) l (omega arith)))
+    (pair (a .i .0) (a .j .0)) (a .k .0) l (omega arith)))
 
 loop-holds : tie.Need-loop-holds Inv-loop μ-loop
 loop-holds c = (omega arith, λ n hk. turn-begins _ _)
@@ -48,11 +49,11 @@ start c = c .before .before .before .before .before .before
 found-is : (c : tie.After-call-failure Inv-loop μ-loop) (n : ℕ) → start c .args .k .0 < n → statedStep (c .call-failure .result)
     ≡ quadrupleAt (start c .args .book .now) (start c .args .offsets .now) (start c .args .places .now)
     n (start c .args .m) (start c .args .place)
-    (record { lot = start c .args .i .0; call = start c .args .j .0 }) (start c .args .k .0) (c .before .before .loop .l)
+    (pair (start c .args .i .0) (start c .args .j .0)) (start c .args .k .0) (c .before .before .loop .l)
 found-is c n hk =
     let a = start c .args in
     c .call-failure .ensures n (a .m) hk (c .before .loop-test .taken)
-    ∙ later (a .book .now) (a .offsets .now) (a .places .now) n (a .m) (a .place) (record { lot = a .i .0; call = a .j .0 })
+    ∙ later (a .book .now) (a .offsets .now) (a .places .now) n (a .m) (a .place) (pair (a .i .0) (a .j .0))
     (a .k .0) (c .before .before .loop .l) (omega arith)
 
 returns-2 : tie.Need-returns-2 Inv-loop μ-loop

@@ -3,6 +3,7 @@ use mathlib.Core.Path.{_≡_, sym, _∙_}
 use Prim.Native.Nat.{_≤_, _-_}
 use native.Mathlib.Omega.{arith}
 use borrow.Author.Needs.{needs}
+use Rattle.transport.specs.Greedy.{pair}
 use Rattle.specification.specs.Check.{inTurn}
 use Rattle.order.specs.Answers.{quadrupleAt}
 use Rattle.order.proofs.Scanning.{turn-begins, turn-goes-on, turn-stops, turn-ends}
@@ -12,8 +13,8 @@ use Rattle.order.proofs.scan.pair_failure.Tie as tie
 abbrev Inv-loop : tie.InvT-loop
 Inv-loop book offsets places n m place i j k₀ k =
     (k ≤ n)
-    × (inTurn n 0 (λ o. inTurn m 0 (quadrupleAt book offsets places n m place (record { lot = i .0; call = j .0 }) o))
-    ≡ inTurn (n - k) k (λ o. inTurn m 0 (quadrupleAt book offsets places n m place (record { lot = i .0; call = j .0 }) o)))
+    × (inTurn n 0 (λ o. inTurn m 0 (quadrupleAt book offsets places n m place (pair (i .0) (j .0)) o))
+    ≡ inTurn (n - k) k (λ o. inTurn m 0 (quadrupleAt book offsets places n m place (pair (i .0) (j .0)) o)))
 
 abbrev μ-loop : tie.MeasureT-loop
 μ-loop book offsets places n m place i j k₀ k = n - k

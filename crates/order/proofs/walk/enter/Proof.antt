@@ -7,11 +7,11 @@ use Prim.Native.Nat.{ℕ, _+_, _*_, _≤_, _<_, _-_}
 use native.Mathlib.Omega.{arith}
 use borrow.Author.Needs.{needs}
 use Rattle.transport.specs.Finder.{every}
-use Rattle.transport.specs.Greedy.{Pair}
+use Rattle.transport.specs.Greedy.{Pair, pair}
+use Rattle.transport.proofs.Laws.Searches.{every-more}
 use Rattle.book.specs.Table.{problemBy}
 use Rattle.order.specs.Places.{Shows}
 use Rattle.order.proofs.Arrays.{shows-same}
-use Rattle.order.proofs.Every.{every-more}
 use Rattle.order.proofs.Lowering.{loweredTo, passes, lowered-none, lowered-all, lot-shows, lot-says}
 use Rattle.order.proofs.walk.enter.Statement.{statement}
 use Rattle.order.proofs.walk.enter.Tie as tie
@@ -20,8 +20,8 @@ abbrev Inv-loop : tie.InvT-loop
 Inv-loop book offsets places n i j place least₀ own free₀ k₀ least free k =
     (k ≤ n)
     × ((m : ℕ) (gaps : ℕ → ℕ → ℕ) → j .0 < m → Shows n n least₀ gaps
-    → Shows n n least (loweredTo (problemBy book offsets n m) gaps (record { lot = i .0; call = j .0 }) k)
-    × (free ≡ every k (passes (problemBy book offsets n m) gaps places place (record { lot = i .0; call = j .0 }))))
+    → Shows n n least (loweredTo (problemBy book offsets n m) gaps (pair (i .0) (j .0)) k)
+    × (free ≡ every k (passes (problemBy book offsets n m) gaps places place (pair (i .0) (j .0)))))
 
 abbrev μ-loop : tie.MeasureT-loop
 μ-loop book offsets places n i j place least₀ own free₀ k₀ least free k = n - k
@@ -30,7 +30,7 @@ loop-holds : tie.Need-loop-holds Inv-loop μ-loop
 unfolding every
 loop-holds c =
     let args = c .before .before .args in
-    let p : Pair = record { lot = args .i .0; call = args .j .0 } in (
+    let p : Pair = pair (args .i .0) (args .j .0) in (
       omega arith,
       λ m gaps h s.
           (shows-same s (λ a b ha hb. lowered-none (problemBy (args .book .now) (args .offsets .now) (args .n) m) gaps p a b), refl),
@@ -62,7 +62,7 @@ loop-again c =
     let l = c .before .before .before .before .loop in
     let start = c .before .before .before .before .before .before .before in
     let a = start .args in
-    let p : Pair = record { lot = a .i .0; call = a .j .0 } in
+    let p : Pair = pair (a .i .0) (a .j .0) in
     let done = c .before .lower .ensures in
     let k-in = c .before .before .before .loop-test .taken in (
       omega arith,
@@ -82,7 +82,7 @@ returns c =
     let l = c .before .loop in
     let start = c .before .before .before .before in
     let args = start .args in
-    let p : Pair = record { lot = args .i .0; call = args .j .0 } in
+    let p : Pair = pair (args .i .0) (args .j .0) in
     let e : l .k ≡ args .n = omega arith in
     λ m gaps h s.
     let all = l .inv .1 m gaps h s in

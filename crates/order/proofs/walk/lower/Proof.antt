@@ -1,4 +1,4 @@
--- `order::walk::lower` meets its contract.
+-- `order::walk::lower` meets its contract: the entry is lowered to the gap, and the pair is tested only where (k, j) does not stand earlier.
 use mathlib.Core.Path.{_≡_}
 use mathlib.Core.Logic.{⊎-elim}
 use Prim.Native.Nat.{min}

@@ -1,4 +1,5 @@
 -- `placer::text::last_field` meets its contract: the field is appended, and then a newline.
+use mathlib.Core.List.{[], _∷_}
 use borrow.Author.Needs.{needs}
 use Rattle.specification.specs.Text.{line}
 use Rattle.placer.proofs.Appending.{append-more, room-first, room-rest}
@@ -11,7 +12,7 @@ field-requires c κs = room-first _ _ (c .before .before .pre)
 
 put-requires : tie.Need-put-requires
 unfolding line
-put-requires c κs = let f = c .before .before .before in room-rest _ (f .before .before .before .pre) (f .field .ensures)
+put-requires c κs = let f = c .before .before .before in room-rest (10 ∷ []) (f .before .before .before .pre) (f .field .ensures)
 
 returns : tie.Need-returns
 unfolding line

@@ -1,20 +1,20 @@
 -- `placer::text::pair_lines` meets its contract. The invariant: the lines of the entries passed have been appended, in at most 17 bytes
 -- each.
 use mathlib.Core.Path.{_≡_}
-use Prim.Native.Nat.{_*_, _≤_, _<_, _-_}
+use Prim.Native.Nat.{_*_, _/_, _%_, _≤_, _<_, _-_}
 use native.Mathlib.Nat.{mul-le-mul}
 use native.Mathlib.Numerals.{add-one}
 use native.Mathlib.Omega.{arith}
 use Rattle.specification.specs.Text.{pairLines}
-use Rattle.placer.specs.Rendering.{Within}
+use Rattle.run.proofs.Grid.{cell-in}
+use Rattle.placer.specs.Rendering.{AppendedWithin}
 use Rattle.placer.proofs.Appending.{append-none, within-of, within-more}
-use Rattle.placer.proofs.Lines.{some-calls, lot-in, call-in}
 use Rattle.placer.proofs.text.pair_lines.Statement.{statement}
 use Rattle.placer.proofs.text.pair_lines.Tie as tie
 
 abbrev Inv-loop : tie.InvT-loop
 Inv-loop out₀ at n m flow cells next₀ k₀ out next k =
-    (k ≤ cells) × (cells ≤ 1024) × Within (17 * k) at out₀ (pairLines m flow k) next out
+    (k ≤ cells) × (cells ≤ 1024) × AppendedWithin (17 * k) at out₀ (pairLines m flow k) next out
 
 abbrev μ-loop : tie.MeasureT-loop
 μ-loop out₀ at n m flow cells next₀ k₀ out next k = cells - k
@@ -22,10 +22,11 @@ abbrev μ-loop : tie.MeasureT-loop
 cells-most : (c : tie.Start Inv-loop μ-loop) → c .args .n * c .args .m ≤ 1024
 cells-most c = mul-le-mul {n₂ = 32} {m₂ = 32} (c .pre .0) (c .pre .1)
 
--- in a turn the entry at hand is one of the n times m
-in-cells : (c : tie.In-loop Inv-loop μ-loop)
-    → c .before .loop .k < c .before .before .before .args .n * c .before .before .before .args .m
-in-cells c = omega arith
+-- in a turn the entry at hand is that of a lot and a call
+cell : (c : tie.In-loop Inv-loop μ-loop)
+    → (c .before .loop .k / c .before .before .before .args .m < c .before .before .before .args .n)
+    × (c .before .loop .k % c .before .before .before .args .m < c .before .before .before .args .m)
+cell c = cell-in _ _ _ (omega arith)
 
 loop-holds : tie.Need-loop-holds Inv-loop μ-loop
 unfolding pairLines
@@ -33,8 +34,8 @@ loop-holds c = (omega arith, cells-most (c .before), within-of (append-none _ _)
 
 pair-line-requires : tie.Need-pair-line-requires Inv-loop μ-loop
 pair-line-requires c κs =
-    let at-hand = in-cells (c .before .before) in
-    (omega (arith, lot-in _ _ _ at-hand), omega (arith, call-in _ _ _ at-hand), omega arith)
+    let (lot, call) = cell (c .before .before) in
+    (omega (arith, lot), omega (arith, call), omega arith)
 
 loop-again : tie.Need-loop-again Inv-loop μ-loop
 unfolding pairLines
@@ -59,8 +60,8 @@ pair-lines-spec =
     μ-loop
     (λ c. omega (arith, cells-most (c .before)))
     loop-holds
-    (λ c. some-calls _ _ _ (in-cells (c .before)))
-    (λ c. some-calls _ _ _ (in-cells (c .before)))
+    (λ c. omega (arith, cell (c .before) .1))
+    (λ c. omega (arith, cell (c .before) .1))
     (λ c. omega arith)
     (λ c. omega arith)
     pair-line-requires

@@ -7,15 +7,15 @@ use Rattle.placer.proofs.Whole.{rendered, given-text, refused-text}
 use Rattle.placer.proofs.text.render.Statement.{statement}
 use Rattle.placer.proofs.text.render.Tie as tie
 
-answer-requires : tie.Need-answer-requires
-answer-requires c κs =
+answer-text-requires : tie.Need-answer-text-requires
+answer-text-requires c κs =
     let p = c .before .before .before in
     let start = p .before .before .before in
     let few = start .pre .0 _ (ap statedPlaced (p .placed .given .1)) in
     (few .0, few .1, omega (arith, start .pre .1), omega arith)
 
-answer-requires-2 : tie.Need-answer-requires-2
-answer-requires-2 c κs =
+answer-text-requires-2 : tie.Need-answer-text-requires-2
+answer-text-requires-2 c κs =
     let p = c .before .before .before in
     let start = p .before .before .before in
     let few = start .pre .0 _ (ap statedPlaced (p .placed2 .given .1)) in
@@ -25,13 +25,13 @@ returns : tie.Need-returns
 returns c =
     let a = c .before .before in
     rw (a .before .before .before .before .placed .given .1)
-    (rendered _ _ _ _ (a .answer .ensures) (omega arith) (given-text _ _ _ _))
+    (rendered _ _ _ _ (a .answer-text .ensures) (omega arith) (given-text _ _ _ _))
 
 returns-2 : tie.Need-returns-2
 returns-2 c =
     let a = c .before .before in
     rw (a .before .before .before .before .placed2 .given .1)
-    (rendered _ _ _ _ (a .answer2 .ensures) (omega arith) (given-text _ _ _ _))
+    (rendered _ _ _ _ (a .answer-text2 .ensures) (omega arith) (given-text _ _ _ _))
 
 returns-3 : tie.Need-returns-3
 returns-3 c =
@@ -47,10 +47,10 @@ render-spec =
     (tie.spec
     (λ c. search needs)
     (λ c. search needs)
-    answer-requires
+    answer-text-requires
     (λ c. search needs)
     (λ c. search needs)
-    answer-requires-2
+    answer-text-requires-2
     (λ c. search needs)
     (λ c κs. search needs)
     (λ c κs. omega (arith, c .before .before .before .before .before .before .pre .1))

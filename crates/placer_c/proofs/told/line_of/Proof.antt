@@ -1,5 +1,4 @@
 -- `told::line_of` meets its contract: each arm is given which cause it is.
--- Assumes nothing.
 use mathlib.Core.Path.{refl}
 use borrow.Author.Needs.{needs}
 use Rattle.placer_c.proofs.told.line_of.Statement.{statement}

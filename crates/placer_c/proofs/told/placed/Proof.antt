@@ -1,5 +1,4 @@
 -- `told::placed` meets its contract: each arm is given which answer it is.
--- Assumes nothing.
 use borrow.Author.Needs.{needs}
 use Rattle.placer_c.specs.Answers.{answerOf}
 use Rattle.placer_c.proofs.told.placed.Statement.{statement}

@@ -1,5 +1,4 @@
 -- `told::refused` meets its contract by what `line_of` ensures.
--- Assumes nothing.
 use borrow.Author.Needs.{needs}
 use Rattle.placer_c.proofs.told.refused.Statement.{statement}
 use Rattle.placer_c.proofs.told.refused.Tie as tie

@@ -1,4 +1,4 @@
--- `run::turns::run_pairs` meets its contract. The invariant: from where the loop began, the pairs passed have been run (`Ran`). A turn joins one
+-- `run::turns::run_pairs` meets its contract. The invariant: from where the loop began, the pairs passed have been run (`RanPairs`). A turn joins one
 -- pair's run to it: `place` made it, or the pair has no room and the arrays stay (`gave-nothing`). That a pair's units fit an entry follows
 -- from `ran-falls`: no lot has more left than it had.
 use mathlib.Core.Path.{_≡_, refl, sym}
@@ -10,7 +10,8 @@ use lib.Arith.{digits-lt}
 use lib.ListN.{length, length-set}
 use borrow.Author.Needs.{needs}
 use Rattle.specification.specs.OrderFile.{pairs}
-use Rattle.run.specs.Run.{pairAt, pairsOf, roomIn, Ran}
+use Rattle.order.specs.Places.{orderPair}
+use Rattle.run.specs.Run.{pairsOf, roomIn, RanPairs}
 use Rattle.run.proofs.Listing.{pairs-more, listed}
 use Rattle.run.proofs.Steps.{gave-nothing, ran-none, ran-one, ran-append, ran-falls}
 use Rattle.run.proofs.turns.run_pairs.Statement.{statement}
@@ -18,7 +19,7 @@ use Rattle.run.proofs.turns.run_pairs.Tie as tie
 
 abbrev Inv-loop : tie.InvT-loop
 Inv-loop order count n m flow₀ state₀ k₀ flow state k =
-    (k ≤ count) × (length flow ≡ length flow₀) × Ran (pairsOf order k) n m state₀ flow₀ state flow
+    (k ≤ count) × (length flow ≡ length flow₀) × RanPairs (pairsOf order k) n m state₀ flow₀ state flow
 
 abbrev μ-loop : tie.MeasureT-loop
 μ-loop order count n m flow₀ state₀ k₀ flow state k = count - k
@@ -26,17 +27,17 @@ abbrev μ-loop : tie.MeasureT-loop
 -- the pair at hand is one of the lots and calls, and its entry is in the flow
 pair-in : (c : tie.In-loop Inv-loop μ-loop)
     → let start = c .before .before .before .before in
-    let p = pairAt (start .args .order .now) (c .before .loop .turn) in
+    let p = orderPair (start .args .order .now) (c .before .loop .turn) in
     (p .lot < start .args .n) × (p .call < start .args .m)
 pair-in c =
     let start = c .before .before .before .before in
     let turn = c .before .loop .turn in
-    let p = pairAt (start .args .order .now) turn in
+    let p = orderPair (start .args .order .now) turn in
     start .pre .pairs-in (p .lot) (p .call) (listed (start .args .order .now) (start .args .count) turn (c .loop-test .taken))
 
 entry-in : (c : tie.In-loop Inv-loop μ-loop)
     → let start = c .before .before .before .before in
-    let p = pairAt (start .args .order .now) (c .before .loop .turn) in
+    let p = orderPair (start .args .order .now) (c .before .loop .turn) in
     p .lot * start .args .m + p .call < start .args .n * start .args .m
 entry-in c = digits-lt (pair-in c .0) (pair-in c .1)
 
@@ -91,13 +92,13 @@ stepped : (c : tie.Joined1 Inv-loop μ-loop)
     → let loop = c .before .before .before .before .before .before .before .loop in
     let args = c .before .before .before .before .before .before .before .before .before .before .args in
     (length (c .if1 .flow) ≡ length (loop .flow))
-    × Ran (pairAt (args .order .now) (loop .turn) ∷ []) (args .n) (args .m) (loop .state) (loop .flow) (c .if1 .state) (c .if1 .flow)
+    × RanPairs (orderPair (args .order .now) (loop .turn) ∷ []) (args .n) (args .m) (loop .state) (loop .flow) (c .if1 .state) (c .if1 .flow)
 stepped c =
     let in-loop = c .before .before .before .before .before .before in
     let loop = in-loop .before .loop in
     let start = in-loop .before .before .before .before in
-    let i = pairAt (start .args .order .now) (loop .turn) .lot in
-    let j = pairAt (start .args .order .now) (loop .turn) .call in
+    let i = orderPair (start .args .order .now) (loop .turn) .lot in
+    let j = orderPair (start .args .order .now) (loop .turn) .call in
     let (lot, call) = pair-in in-loop in
     ⊎-elim
     (λ (if1, arg, place, flow, known, flow-is, state-is). rw (flow-is, state-is) (omega arith, place .ensures _ lot call))

@@ -1,15 +1,15 @@
--- `placer::text::answer` meets its contract: the first line's word and its two numbers, and then the pairs' lines.
+-- `placer::text::answer_text` meets its contract: the first line's word and its two numbers, and then the pairs' lines.
 use mathlib.Core.List.{List, [], _∷_}
 use Prim.Native.Nat.{ℕ, _≤_}
 use native.Mathlib.Omega.{arith}
 use borrow.Author.Needs.{needs}
 use lib.ListN.{length}
 use Rattle.specification.specs.Text.{decimal, line}
-use Rattle.placer.specs.Rendering.{Room, Within}
+use Rattle.placer.specs.Rendering.{Room, AppendedWithin}
 use Rattle.placer.proofs.Appending.{append-more, room-first, room-rest, within-of, within-more}
 use Rattle.placer.proofs.Lines.{first-line-length}
-use Rattle.placer.proofs.text.answer.Statement.{statement}
-use Rattle.placer.proofs.text.answer.Tie as tie
+use Rattle.placer.proofs.text.answer_text.Statement.{statement}
+use Rattle.placer.proofs.text.answer_text.Tie as tie
 
 -- the first line: it is short, there is room for it, and it has been appended before the pairs' lines are
 abbrev first : tie.Start → List ℕ
@@ -24,7 +24,7 @@ first-room c = record { fits = omega (arith, first-short c) }
 first-appended : (c : tie.After-last-two)
     → let word = c .before .before .before .before in
     let start = word .before .before .before .before in
-    Within 48 0 (start .args .out .now) (first start) (c .last-two .result) (c .last-two .last .0)
+    AppendedWithin 48 0 (start .args .out .now) (first start) (c .last-two .result) (c .last-two .last .0)
 unfolding line
 first-appended c =
     let word = c .before .before .before .before in
@@ -52,5 +52,5 @@ returns c =
     let p = c .before .before in
     within-more (first-appended (p .before .before .before .before)) (p .pair-lines .ensures) (omega arith)
 
-pub answer-spec : {M : Type 1} → statement M
-answer-spec = tie.close (tie.spec word-requires last-two-requires pair-lines-requires (λ c. search needs) returns)
+pub answer-text-spec : {M : Type 1} → statement M
+answer-text-spec = tie.close (tie.spec word-requires last-two-requires pair-lines-requires (λ c. search needs) returns)
