@@ -7,12 +7,11 @@ use Prim.Native.Nat.{ℕ, _+_, _*_, _≤_, _<_}
 use native.Mathlib.Omega.{arith}
 use borrow.Author.Tests.{lt-ltb, le-ltb}
 use lib.ListN.{length, drop}
-use Rattle.transport.specs.Problem.{sum}
 use Rattle.transport.specs.Greedy.{Pair}
-use Rattle.transport.specs.Finder.{find, size}
+use Rattle.transport.specs.Finder.{find}
 use Rattle.transport.proofs.Orders.Length.{order-length}
 use Rattle.transport.proofs.Finder.Find.{find-is-order}
-use Rattle.transport.proofs.Finder.Same.{Same, size-of-same, find-of-same}
+use Rattle.transport.proofs.Finder.Same.{Same}
 use Rattle.specification.specs.Reply.{Size, gives, refuses, refused, statedCounts}
 use Rattle.specification.specs.declared.Refusal.{Refusal}
 use Rattle.specification.specs.declared.Counts.{Counts}
@@ -22,15 +21,13 @@ use Rattle.specification.specs.OrderFile.{orderFile}
 use Rattle.specification.specs.Find.{orderLength, foundOrder, findOrder, findBuffer}
 use Rattle.files.specs.Files.{refusalOf}
 use Rattle.book.specs.Pairs.{offsetTable}
-use Rattle.book.proofs.Readable.{Read, counts-are}
+use Rattle.book.proofs.Readable.{Read}
 use Rattle.book.proofs.Tables.{offsets-tabled, problem-same}
 use Rattle.book.specs.Table.{problemBy, Tabled}
 use Rattle.finder.specs.Table.{Stated}
-use Rattle.finder.specs.Work.{markAt}
 use Rattle.finder.specs.Writing.{Orders}
 use Rattle.finder.specs.declared.inner.Search.{Search}
 use Rattle.finder.specs.declared.inner.Search.the-variants.{Found, Nothing}
-use Rattle.finder.proofs.Turns.{size-is}
 
 -- the search may go by the book's table of offsets, which states the book's own problem
 module _ (book table : List ℕ) (n m : ℕ) (r : Read book n m) (is-its : table ≡ offsetTable book) where
@@ -43,9 +40,6 @@ module _ (book table : List ℕ) (n m : ℕ) (r : Read book n m) (is-its : table
     calls-few = omega (arith, r .calls-is, r .known .calls-within);
     tabled = subst⁻¹ (Tabled book) is-its (offsets-tabled book r);
   }
-
-  pub count-is : sum n (λ i. sum m (markAt table i)) ≡ size (problemOf book)
-  count-is = sym (size-is book table n m stated) ∙ size-of-same states-same
 
 -- the refusal that is handed on is the book's
 pub refusal-is : (book : List ℕ) (counts : Counts) (cause told : Refusal) → statedCounts counts ≡ readBook book → counts ≡ Refused cause
@@ -80,16 +74,11 @@ module _ (book buffer : List ℕ) where
   unfolding findOrder findBuffer
   given-replies S e = (simp e, simp e)
 
--- the search's answer by the table is the reply for the book
-module _ (book table buffer after : List ℕ) (n m : ℕ) (is-its : table ≡ offsetTable book)
-    (e : readBook book ≡ gives (record { lots = n; calls = m }))
-    (h : orderLength book ≤ length buffer) (r : Search)
-    (answer : Orders (find (problemBy book table n m)) r buffer after) where
-  same-order : find (problemBy book table n m) ≡ find (problemOf book)
-  same-order = find-of-same (states-same book table n m (counts-are book (sym e)) is-its)
-
+-- the search's answer is the reply for the book, where the problem that was searched has the order of the book's own
+module _ (book buffer after : List ℕ) {size : Size} (e : readBook book ≡ gives size) (h : orderLength book ≤ length buffer)
+    (o : Option (List Pair)) (same-order : o ≡ find (problemOf book)) (r : Search) (answer : Orders o r buffer after) where
   pub none-replies : r ≡ Nothing → (refuses 13 [] ≡ findOrder book buffer) × (after ≡ findBuffer book buffer)
-  none-replies q = go (find (problemBy book table n m)) (sym same-order) answer
+  none-replies q = go o (sym same-order) answer
     where
       go : (o : Option (List Pair)) → find (problemOf book) ≡ o → Orders o r buffer after
           → (refuses 13 [] ≡ findOrder book buffer) × (after ≡ findBuffer book buffer)
@@ -98,7 +87,7 @@ module _ (book table buffer after : List ℕ) (n m : ℕ) (is-its : table ≡ of
 
   pub some-replies : (count : ℕ) → r ≡ Found count
       → (gives (orderLength book) ≡ findOrder book buffer) × (after ≡ findBuffer book buffer)
-  some-replies count q = go (find (problemBy book table n m)) (sym same-order) answer
+  some-replies count q = go o (sym same-order) answer
     where
       go : (o : Option (List Pair)) → find (problemOf book) ≡ o → Orders o r buffer after
           → (gives (orderLength book) ≡ findOrder book buffer) × (after ≡ findBuffer book buffer)

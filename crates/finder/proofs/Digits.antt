@@ -1,5 +1,6 @@
 -- Laws of words of calls: the digits of a number, lowest first. A number's digits from the second on are those of its half.
 use mathlib.Core.Path.{_≡_, refl, sym, ap, _∙_}
+use mathlib.Core.Logic.{inl}
 use mathlib.Core.Bool.{true, false}
 use Prim.Native.Nat.{ℕ, zero, suc, _+_, _*_, _-_, _/_, _%_, _^_, _≤_, _<_, max}
 use native.Mathlib.Nat.{div-one, div-eq-of-lt, div-mul-le-self, mod-le, mod-lt, mul-le-mul-right, le-trans, lt-of-lt-of-le, pow-suc}
@@ -12,8 +13,8 @@ use lib.Arith.{digits-div}
 use lib.Count.{leadingZeros, leading-top, trailingZeros, under}
 use lib.Pow.{pow-pos, pow-mono, shr-shr, field, mod-mod-pow}
 use Rattle.specification.specs.Book.{bit}
-use Rattle.book.proofs.Bits.{bit-past}
-use Rattle.finder.specs.Words.{LowestIn, HighestIn, Below, Without, Including}
+use Rattle.book.proofs.Bits.{bit-past, bit-below}
+use Rattle.finder.specs.Words.{LowestIn, HighestIn, Above, Below, Without, IncludingIf}
 
 digit-zero : (w : ℕ) → w / 2 ^ 0 % 2 ≡ w % 2
 digit-zero w = ap (λ (x : ℕ). x % 2) (div-one w)
@@ -90,6 +91,13 @@ highest-is n p h =
         let s : n ≡ 1 * 2 ^ j + d = omega arith in
         ap (λ (x : ℕ). x / 2 ^ j) s ∙ digits-div 1 (omega (arith, pow-suc 2 j))
 
+-- the digits from one on
+pub above-some : (w j r : ℕ) → w < 2 ^ 32 → LowestIn (w / 2 ^ (j + 1)) r → Above w j (r + (j + 1))
+above-some w j r h low =
+    let e : j + 1 + r ≡ r + (j + 1) = omega arith in
+    let is-in = sym (ap (λ (x : ℕ). eqb (x % 2) 1) (shr-shr w (j + 1) r ∙ ap (λ (x : ℕ). w / 2 ^ x) e)) ∙ low .is-in in
+    record { stop = inl (bit-below w (r + (j + 1)) 32 is-in h, is-in); higher = omega arith }
+
 -- the lower digits
 pub below-is : (n j : ℕ) → Below n j (n % 2 ^ j)
 below-is n j = record {
@@ -165,9 +173,9 @@ or-digit a b l =
     ap (λ (v : ℕ). v % 2) (or-shr a b l)
     ∙ omega (arith, or-step x y, mod-lt x {m = 2} (lit< tt), mod-lt y {m = 2} (lit< tt))
 
-pub including-is : (w j : ℕ) → Including w j (bitOr w (2 ^ j))
+pub including-is : (w j : ℕ) → IncludingIf true w j (bitOr w (2 ^ j))
 including-is w j = record {
-  is-in = bit-set (bitOr w (2 ^ j)) j (omega (arith, or-digit w (2 ^ j) j, power-same j, mod-lt (w / 2 ^ j) {m = 2} (lit< tt)));
+  own = bit-set (bitOr w (2 ^ j)) j (omega (arith, or-digit w (2 ^ j) j, power-same j, mod-lt (w / 2 ^ j) {m = 2} (lit< tt)));
   others = λ l d. let e : bitOr w (2 ^ j) / 2 ^ l % 2 ≡ w / 2 ^ l % 2 = omega (arith, or-digit w (2 ^ j) l, power-other j l d) in
       ap (λ (x : ℕ). eqb x 1) e;
 }

@@ -1,11 +1,12 @@
 -- Laws of the work arrays, which the functions' proofs cite.
-pub mod Digits
 pub mod Tables
-pub mod Turns
-pub mod Writes
+pub mod Roomed
+pub mod Digits
 pub mod Lowering
 pub mod Marks
 pub mod Asking
 pub mod Taking
-pub mod Finding
+pub mod Passing
+pub mod Turns
+pub mod Writes
 pub mod Books

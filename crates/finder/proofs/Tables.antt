@@ -1,67 +1,37 @@
--- Laws of the tables: what is eligible has an offset and a cost within the limit, and the gap that is read from the book is the problem's.
+-- Laws of tests and numbers, and of tables filled row by row.
 use mathlib.Core.Path.{_≡_, refl, _∙_}
-use mathlib.Core.Bool.{Bool, true, false, not, _&&_}
+use mathlib.Core.Logic.{by-cases}
+use mathlib.Core.Bool.{Bool, true, false}
 use mathlib.Core.List.{List}
-use Prim.Native.Nat.{ℕ, zero, suc, _+_, _*_, _-_, _<_}
+use Prim.Native.Nat.{ℕ, zero, suc, _+_, _*_, _≤_, _<_}
+use native.Mathlib.Numerals.{add-one}
+use native.Mathlib.Decide.{decLt}
 use native.Mathlib.Omega.{arith}
-use borrow.Author.Tests.{eq-eqb, ne-eqb, lt-ltb}
 use borrow.Author.Count.{below-more}
+use lib.Dec.{T}
 use lib.ListN.{length, set, length-set}
 use lib.Seq.{getD-set-same, getD-set-other}
-use lib.Dec.{T, eqb, ltb, ltb→lt, T-not, not-T, eqb→eq}
-use Rattle.transport.specs.Problem.{Problem}
-use Rattle.transport.proofs.Laws.Tests.{and-says}
-use Rattle.transport.proofs.Finder.Gaps.{gap, Bounded}
-use Rattle.book.specs.Table.{entry, problemBy}
-use Rattle.finder.specs.Table.{costAt, limit, Stated}
-use Rattle.finder.specs.Work.{flags, gapOver, Filled}
+use Rattle.transport.specs.Problem.{sum}
+use Rattle.book.specs.Table.{entry}
+use Rattle.finder.specs.Table.{Filled}
 
 pub positive : (n : ℕ) → (n ≡ 0 → ⊥) → 0 < n
 positive zero h = absurd (h refl)
 positive (suc n) h = omega arith
 
-module _ (book table : List ℕ) (n m : ℕ) where
-  abbrev by : Problem
-  by = problemBy book table n m
-
-  pub admits-says : (i j : ℕ) → T (by .admits i j) → (i < n) × (j < m) × (0 < entry table i j)
-  admits-says i j t =
-      let outer = and-says (ltb i n) (ltb j m && not (eqb (entry table i j) 0)) t in
-      let inner = and-says (ltb j m) (not (eqb (entry table i j) 0)) (outer .1) in (
-        ltb→lt i n (outer .0),
-        ltb→lt j m (inner .0),
-        positive (entry table i j) (λ e. T-not (eqb (entry table i j) 0) (inner .1) (rw (eq-eqb (entry table i j) 0 e) tt)),
-      )
-
-  pub admits-is : (i j : ℕ) → i < n → j < m → by .admits i j ≡ not (eqb (entry table i j) 0)
-  admits-is i j hi hj = rw (lt-ltb i n hi, lt-ltb j m hj)
-
-  pub admits-of : (i j : ℕ) → i < n → j < m → 0 < entry table i j → T (by .admits i j)
-  admits-of i j hi hj h = rw (admits-is i j hi hj) (not-T (eqb (entry table i j) 0) (λ t. omega (arith, eqb→eq (entry table i j) 0 t)))
-
-  -- the gap that is read from the book is the problem's
-  pub gap-is : (i k l : ℕ) → k < n → l < m → gap by limit i k l ≡ gapOver book table (costAt book table i l) k l
-  gap-is i k l hk hl = rw (admits-is k l hk hl)
-
-  module _ (s : Stated book table n m) where
-    pub costs-within : Bounded by limit
-    costs-within i j e =
-        let (hi, hj, h) = admits-says i j (e .2) in
-        s .tabled .cheap (32 * i + j) (omega (arith, s .lots-few, s .calls-few)) (λ z. omega arith)
-
--- a flag is 1 or it is not
-module _ (rest : List ℕ) (i j : ℕ) where
-  pub flag-on : entry rest i j ≡ 1 → flags rest i j ≡ true
-  flag-on e = eq-eqb (entry rest i j) 1 e
-
-  pub flag-off : (entry rest i j ≡ 1 → ⊥) → flags rest i j ≡ false
-  flag-off h = ne-eqb (entry rest i j) 1 h
+pub below-of : (m n : ℕ) → m ≤ n → (m ≡ n → ⊥) → m < n
+below-of m n h d = by-cases (decLt m n) (λ l. l) (λ l. absurd (d (omega arith)))
 
 pub T-of : {b : Bool} → b ≡ true → T b
 T-of e = rw e tt
 
 pub F-of : {b : Bool} → b ≡ false → T b → ⊥
 F-of e t = rw e at t
+
+-- a sum of one term more
+pub sum-more : (n : ℕ) (f : ℕ → ℕ) → sum n f + f n ≡ sum (n + 1) f
+unfolding sum
+sum-more n f = rw (add-one, sum)
 
 -- a row filled from the front
 pub filled-none : (i : ℕ) (f : ℕ → ℕ) (t : List ℕ) → Filled i f 0 t t
@@ -75,3 +45,10 @@ filled-more i f k v before after r e hk h = record {
   long = simp length-set (r .long);
   others = λ g a d l. getD-set-other after (32 * i + k) (32 * g + a) v 0 (λ q. d (omega arith)) ∙ r .others g a d l;
 }
+
+-- a table of rows filled from the front, one row more
+pub rows-more : (F : ℕ → ℕ → ℕ) (count i : ℕ) (before after : List ℕ) → count ≤ 32
+    → ((a : ℕ) → a < i → (k : ℕ) → k < count → entry before a k ≡ F a k) → Filled i (F i) count before after
+    → (a : ℕ) → a < i + 1 → (k : ℕ) → k < count → entry after a k ≡ F a k
+rows-more F count i before after few h r =
+    below-more _ _ (λ a l k hk. r .others a k (λ e. omega arith) (omega arith) ∙ h a l k hk) (r .passed)

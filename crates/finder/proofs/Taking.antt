@@ -1,201 +1,180 @@
 -- A pair taken: what is kept of all that remains is again kept of what remains then. The rows of the pair's lot are worked out anew, and every
 -- other lot's stay. A lot that let a pair pass lets it pass still, since pairs only go and least gaps only grow. A lot that hinders a pair
 -- hinders it still, unless it was taken there, or the pair's own lot lost a call.
-use mathlib.Core.Path.{_≡_, sym, _∙_, ap, subst, subst⁻¹}
-use mathlib.Core.Logic.{_⊎_, inl, inr, ⊎-elim, by-cases}
-use mathlib.Core.Bool.{Bool, true, false, cond, _&&_, true≢false}
+use mathlib.Core.Path.{_≡_, sym, _∙_, ap, ap₂, subst, subst⁻¹}
+use mathlib.Core.Logic.{inl, inr, ⊎-elim, by-cases}
+use mathlib.Core.Bool.{Bool, true, false, not, _&&_, _||_, true≢false, and-false}
 use mathlib.Core.List.{List}
-use Prim.Native.Nat.{ℕ, suc, _+_, _*_, _/_, _%_, _≤_, _<_}
+use Prim.Native.Nat.{ℕ, _+_, _*_, _/_, _%_, _≤_, _<_}
 use native.Mathlib.Decide.{ℕ-discrete}
 use native.Mathlib.Omega.{arith}
-use lib.Dec.{T, eqb, leb, leb→le}
-use lib.ListN.{length, getD, set, length-set}
+use borrow.Author.Tests.{eq-eqb, lt-leb}
+use lib.Dec.{T, eqb, leb}
+use lib.ListN.{getD, set, length-set}
 use lib.Seq.{getD-set-same, getD-set-other}
-use Rattle.transport.specs.Problem.{Problem}
-use Rattle.transport.proofs.Laws.Tests.{T-ext, T-false, and-says}
+use Rattle.transport.proofs.Laws.Tests.{T-true, T-false, and-says, and-of}
 use Rattle.transport.proofs.Laws.Searches.{least-same, le-least, least-le, least-le-top}
-use Rattle.transport.proofs.Finder.Gaps.{gap, least-gap-same, leastGap}
 use Rattle.specification.specs.Book.{bit}
 use Rattle.book.specs.Table.{entry}
-use Rattle.finder.specs.Table.{limit}
-use Rattle.finder.specs.Work.{flags, Remaining}
-use Rattle.finder.proofs.Tables.{F-of}
-use Rattle.finder.proofs.Turns.{below-of}
-use Rattle.finder.specs.Rows.{headroom, fromCall, tailGap, Tails, Above, Begun}
-use Rattle.finder.specs.Waiting.{Live, Hindered, Waits, Asks, RowsOf, Asked, Holding}
-use Rattle.finder.specs.Words.{Without, IfEqual, Calls, Lefts}
-use Rattle.finder.proofs.Marks.{tails-stay}
-use Rattle.finder.proofs.Asking.{if-equal-others}
+use Rattle.finder.specs.Rooms.{remains}
+use Rattle.finder.specs.Words.{Above, Without, IncludingIf, Calls, Lefts}
+use Rattle.finder.specs.Rows.{gapAt, leastFrom, Tails, Begun, RowsOf, AllRows}
+use Rattle.finder.specs.Waiting.{hinders, Hindered, Waits, Asks, Asked}
+use Rattle.finder.specs.Work.{Holding}
+use Rattle.finder.proofs.Tables.{T-of}
+use Rattle.finder.proofs.Roomed.{remains-says, capped-set}
+use Rattle.finder.proofs.Lowering.{tails-stay}
+use Rattle.finder.proofs.Marks.{hinders-says, hinders-of, passes-says}
+use Rattle.finder.proofs.Asking.{if-unset}
 
-module _ (P : Problem) (calls-few : P .calls ≤ 32) (lots-few : P .lots ≤ 32) (rest : List ℕ) (x : ℕ) (hx : x < length rest) where
-  abbrev gone : List ℕ
-  gone = set rest x 0
+-- call j leaves the word of lot i
+module _ (rooms : List ℕ) (n word i j after : ℕ) (w : Without word j after) where
+  fewer-calls : (l : ℕ) → bit after l ≡ true → bit word l ≡ true
+  fewer-calls l e = by-cases (ℕ-discrete l j)
+      (λ z. absurd (true≢false (sym e ∙ subst⁻¹ (λ (b : ℕ). bit after b ≡ false) z (w .out))))
+      (λ d. sym (w .others l d) ∙ e)
 
-  -- the mark at x alone changes
-  cell-other : (a l : ℕ) → (32 * a + l ≡ x → ⊥) → flags gone a l ≡ flags rest a l
-  cell-other a l d = ap (λ (v : ℕ). eqb v 1) (getD-set-other rest x (32 * a + l) 0 0 d)
+  -- the calls above it are as they were
+  from-above : (l k : ℕ) → j < l → leastFrom rooms word i l k ≡ leastFrom rooms after i l k
+  from-above l k lt = least-same 32 _ _ (gapAt rooms i k) 2000001 (λ h hh. by-cases (ℕ-discrete h j)
+      (λ e. rw (lt-leb l h (omega arith)) (and-false (bit word h) ∙ sym (and-false (bit after h))))
+      (λ d. ap (λ (b : Bool). b && leb l h) (sym (w .others h d))))
 
-  cell-gone : (a l : ℕ) → 32 * a + l ≡ x → T (flags gone a l) → ⊥
-  cell-gone a l e = F-of (ap (λ (v : ℕ). eqb v 1) (subst⁻¹ (λ (y : ℕ). getD gone y 0 ≡ 0) e (getD-set-same rest x 0 0 hx)))
-
-  fewer : (a l : ℕ) → T (flags gone a l) → T (flags rest a l)
-  fewer a l t = by-cases (ℕ-discrete (32 * a + l) x) (λ e. absurd (cell-gone a l e t)) (λ d. subst T (cell-other a l d) t)
-
-  -- its headroom goes
-  pub live-then : (book table : List ℕ) (live : List ℕ) → x < 1024 → length live ≡ 1024
-      → Live book table (P .lots) (P .calls) (flags rest) live
-      → Live book table (P .lots) (P .calls) (flags gone) (set live (32 * (x % 32) + x / 32) 0)
-  live-then book table live h long r l hl k hk = by-cases (ℕ-discrete (32 * k + l) x)
-      (λ e. let at : 32 * l + k ≡ 32 * (x % 32) + x / 32 = omega arith in
-      rw (T-false (flags gone k l) (cell-gone k l e))
-      (subst⁻¹ (λ (y : ℕ). getD (set live (32 * (x % 32) + x / 32) 0) y 0 ≡ 0) at
-      (getD-set-same live (32 * (x % 32) + x / 32) 0 0 (omega arith))))
-      (λ d. getD-set-other live (32 * (x % 32) + x / 32) (32 * l + k) 0 0 (λ e. d (omega arith)) ∙ r l hl k hk
-      ∙ ap (λ (b : Bool). cond b (headroom book table l k) 0) (sym (cell-other k l d)))
-
-  pub remaining-then : Remaining P rest → Remaining P gone
-  remaining-then h a l r = h a l (r .0, r .1, fewer a l (r .2))
-
-  -- what is kept of a lot's own calls rests on them alone
-  module _ (a : ℕ) (other-lot : a ≡ x / 32 → ⊥) where
-    row-stays : (l : ℕ) → l < 32 → flags gone a l ≡ flags rest a l
-    row-stays l hl = cell-other a l (λ e. other-lot (omega arith))
-
-    least-stays : (k : ℕ) → leastGap P limit (flags gone) a k ≡ leastGap P limit (flags rest) a k
-    least-stays k = least-gap-same P limit (flags gone) (flags rest) a k (λ l hl. row-stays l (omega arith))
-
-    tail-stays : (l k : ℕ) → tailGap P (flags rest) a l k ≡ tailGap P (flags gone) a l k
-    tail-stays l k = least-same (P .calls) _ _ (gap P limit a k) (suc (limit + limit))
-        (λ h hh. ap (λ (b : Bool). b && leb l h) (sym (row-stays h (omega arith))))
-
-    tails-then : (tails : List ℕ) → Tails P (flags rest) a 0 tails → Tails P (flags gone) a 0 tails
-    tails-then tails h l z t k hk = h l z (⊎-elim (λ r. inl (r .0, fewer a l (r .1))) inr t) k hk ∙ tail-stays l k
-
-  -- the calls above the one that is taken are as they were
-  tail-above : (l k : ℕ) → x % 32 < l → tailGap P (flags rest) (x / 32) l k ≡ tailGap P (flags gone) (x / 32) l k
-  tail-above l k lt = least-same (P .calls) _ _ (gap P limit (x / 32) k) (suc (limit + limit)) (λ h hh.
-      by-cases (ℕ-discrete h (x % 32))
-      (λ e. T-ext (fromCall (flags rest) (x / 32) l h) (fromCall (flags gone) (x / 32) l h)
-      (λ t. absurd (omega (arith, leb→le l h (and-says (flags rest (x / 32) h) (leb l h) t .1))))
-      (λ t. absurd (omega (arith, leb→le l h (and-says (flags gone (x / 32) h) (leb l h) t .1)))))
-      (λ d. ap (λ (b : Bool). b && leb l h) (sym (cell-other (x / 32) h (λ e. d (omega arith))))))
-
-  pub begun-then : (up : ℕ) (tails : List ℕ) → Tails P (flags rest) (x / 32) 0 tails → Above (flags gone) (P .calls) (x / 32) (x % 32) up
-      → Begun P (flags gone) (x / 32) (x % 32) up tails
+  pub begun-then : (up : ℕ) (tails : List ℕ) → Tails rooms n word i 0 tails → Above after j up → Begun rooms n after i up tails
   begun-then up tails h r = record {
     stop = r .stop;
-    between = λ l a lt hl t. by-cases (ℕ-discrete l (x % 32))
-        (λ e. cell-gone (x / 32) l (omega arith) t)
-        (λ d. r .between l (omega (arith, below-of (x % 32) l a (λ q. d (sym q)))) lt hl t);
-    stand = λ l a t k hk. h l (omega arith) (⊎-elim (λ q. inl (q .0, fewer (x / 32) l (q .1))) inr t) k hk
-        ∙ tail-above l k (omega (arith, r .higher));
-    before = omega (arith, r .higher);
-    within = ⊎-elim (λ q. omega (arith, q .0)) (λ q. omega arith) (r .stop);
+    stand = λ l a t k hk. h l (omega arith) (⊎-elim (λ q. inl (q .0, fewer-calls l (q .1))) inr t) k hk
+        ∙ from-above l k (omega (arith, r .higher));
   }
 
-  -- pairs only go, and least gaps only grow
-  least-grows : (i k : ℕ) → leastGap P limit (flags rest) i k ≤ leastGap P limit (flags gone) i k
-  least-grows i k = le-least (flags gone i) (gap P limit i k) (suc (limit + limit)) (P .calls) (leastGap P limit (flags rest) i k)
-      (least-le-top (flags rest i) (gap P limit i k) (suc (limit + limit)) (P .calls))
-      (λ l hl t. least-le (flags rest i) (gap P limit i k) (suc (limit + limit)) (P .calls) l hl (fewer i l t))
+  -- least gaps only grow
+  least-grows : (k : ℕ) → leastFrom rooms word i 0 k ≤ leastFrom rooms after i 0 k
+  least-grows k = le-least (λ l. bit after l && leb 0 l) (gapAt rooms i k) 2000001 32 (leastFrom rooms word i 0 k)
+      (least-le-top (λ l. bit word l && leb 0 l) (gapAt rooms i k) 2000001 32)
+      (λ l hl t. let both = and-says (bit after l) (leb 0 l) t in
+      least-le (λ a. bit word a && leb 0 a) (gapAt rooms i k) 2000001 32 l hl
+      (and-of (bit word l) (leb 0 l) (T-of (fewer-calls l (T-true (bit after l) (both .0)))) (both .1)))
 
-  waits-then : (waits : List ℕ) → Waits P (flags rest) waits → Waits P (flags gone) waits
-  waits-then waits h = record {
-    within = h .within;
-    passed = λ i j hi hj t k a hk r. omega (arith, h .passed i j hi hj (fewer i j t) k a hk (fewer k j r), least-grows i k);
-    long = h .long;
-  }
+-- the pair at place x is taken
+module _ (rooms : List ℕ) (n : ℕ) (few : n ≤ 32) (live tails least waits asks lefts : List ℕ)
+    (h : Holding rooms n live tails least waits asks lefts) (x : ℕ) (hx : x < 1024) (hi : x / 32 < n) where
+  abbrev gone : List ℕ
+  gone = set live (32 * (x % 32) + x / 32) 0
 
-  -- the pair's call leaves the word of its lot
-  pub lefts-then : (word : ℕ) (lefts : List ℕ) → x / 32 < 32 → Lefts (flags rest) (P .lots) (P .calls) lefts
-      → Without (getD lefts (x / 32) 0) (x % 32) word → Lefts (flags gone) (P .lots) (P .calls) (set lefts (x / 32) word)
-  lefts-then word lefts hi h w = record {
-    each = λ a ha. by-cases (ℕ-discrete a (x / 32))
-        (λ e. subst⁻¹ (λ (b : ℕ). Calls (flags gone) b (P .calls) (getD (set lefts (x / 32) word) b 0)) e
-        (subst⁻¹ (Calls (flags gone) (x / 32) (P .calls)) (getD-set-same lefts (x / 32) word 0 (omega (arith, h .long)))
-        (own (subst (λ (b : ℕ). b < P .lots) e ha))))
-        (λ d. subst⁻¹ (Calls (flags gone) a (P .calls)) (getD-set-other lefts (x / 32) a word 0 d) (record {
-          holds = λ l hl t. h .each a ha .holds l hl (fewer a l t);
-          within = h .each a ha .within;
-        }));
-    long = simp length-set (h .long);
-  }
-    where
-      own : x / 32 < P .lots → Calls (flags gone) (x / 32) (P .calls) word
-      own ha = record {
-        holds = λ l hl t. by-cases (ℕ-discrete l (x % 32))
-            (λ e. absurd (cell-gone (x / 32) l (omega arith) t))
-            (λ d. w .others l d ∙ h .each (x / 32) ha .holds l hl (fewer (x / 32) l t));
-        within = λ l e. by-cases (ℕ-discrete l (x % 32))
-            (λ z. absurd (true≢false (sym e ∙ subst⁻¹ (λ (b : ℕ). bit word b ≡ false) z (w .out))))
-            (λ d. h .each (x / 32) ha .within l (sym (w .others l d) ∙ e));
-      }
+  -- its room alone goes
+  cell-other : (a l : ℕ) → a < 32 → ((a ≡ x / 32) × (l ≡ x % 32) → ⊥) → entry gone l a ≡ entry live l a
+  cell-other a l ha d = getD-set-other live (32 * (x % 32) + x / 32) (32 * l + a) 0 0 (λ e. d (omega arith, omega arith))
 
-  asks-then : (word : ℕ) (waits before after : List ℕ) → x % 32 < P .calls → Calls (flags gone) (x / 32) (P .calls) word
-      → Asks P (flags rest) waits before → Asked waits (P .lots) (x / 32) (x % 32) before after → getD after (x / 32) 0 ≡ word
-      → Asks P (flags gone) waits after
-  asks-then word waits before after hj left h r own = record {
-    each = λ a l ha hl t e. by-cases (ℕ-discrete a (x / 32))
-        (λ z. absurd (true≢false (sym (left .holds l hl (subst (λ (b : ℕ). T (flags gone b l)) z t)) ∙ there l z e)))
-        (λ d. let i = r .passed a ha d in
-        stays a d l (h .each a l ha hl (fewer a l t) (unasked a l i e)) (λ z. asked-not a l i e z (omega arith)));
-    within = λ a l ha e. by-cases (ℕ-discrete a (x / 32))
-        (λ z. left .within l (there l z e))
-        (λ d. by-cases (ℕ-discrete l (x % 32))
-        (λ z. omega arith)
-        (λ o. h .within a l ha (sym (if-equal-others _ _ _ _ _ l (r .passed a ha d) o) ∙ e)));
-    long = r .long ∙ h .long;
-  }
-    where
-      there : {a : ℕ} {v : Bool} (l : ℕ) → a ≡ x / 32 → bit (getD after a 0) l ≡ v → bit word l ≡ v
-      there l z e = sym (ap (λ (g : ℕ). bit (getD after g 0) l) z ∙ ap (λ (w : ℕ). bit w l) own) ∙ e
+  cell-gone : entry gone (x % 32) (x / 32) ≡ 0
+  cell-gone = getD-set-same live (32 * (x % 32) + x / 32) 0 0 (omega (arith, h .live-long))
 
-      -- a call that is not in the word was not in it
-      unasked : (a l : ℕ) → IfEqual (getD before a 0) (x % 32) (entry waits (x % 32) a) (x / 32) (getD after a 0)
-          → bit (getD after a 0) l ≡ false → bit (getD before a 0) l ≡ false
-      unasked a l i e = by-cases (ℕ-discrete l (x % 32))
-          (λ z. by-cases (ℕ-discrete (entry waits (x % 32) a) (x / 32))
-          (λ q. absurd (true≢false (sym (i .equal q .is-in) ∙ subst (λ (b : ℕ). bit (getD after a 0) b ≡ false) z e)))
-          (λ q. sym (ap (λ (w : ℕ). bit w l) (i .unequal q)) ∙ e))
-          (λ d. sym (if-equal-others _ _ _ _ _ l i d) ∙ e)
+  stays : (a l : ℕ) → a < n → T (remains gone a l) → entry gone l a ≡ entry live l a
+  stays a l ha t = cell-other a l (omega arith)
+      (λ z. omega (arith, remains-says gone a l t, ap₂ (λ (b k : ℕ). entry gone k b) (z .0) (z .1) ∙ cell-gone))
 
-      -- and its pair does not wait for the one that is taken
-      asked-not : (a l : ℕ) → IfEqual (getD before a 0) (x % 32) (entry waits (x % 32) a) (x / 32) (getD after a 0)
-          → bit (getD after a 0) l ≡ false → 32 * entry waits l a + l ≡ x → l < 32 → ⊥
-      asked-not a l i e q hl =
-          let call : l ≡ x % 32 = omega arith in
-          let lot : entry waits l a ≡ x / 32 = omega arith in
-          true≢false (sym (i .equal (subst (λ (b : ℕ). entry waits b a ≡ x / 32) call lot) .is-in)
-          ∙ subst (λ (b : ℕ). bit (getD after a 0) b ≡ false) call e)
+  fewer : (a l : ℕ) → a < n → T (remains gone a l) → T (remains live a l)
+  fewer a l ha t = subst T (ap (λ (v : ℕ). not (eqb v 0)) (stays a l ha t)) t
 
-      stays : (a : ℕ) → (a ≡ x / 32 → ⊥) → (l : ℕ) → Hindered P (flags rest) a l (entry waits l a) → (32 * entry waits l a + l ≡ x → ⊥)
-          → Hindered P (flags gone) a l (entry waits l a)
-      stays a d l held elsewhere = record {
-        lot-in = held .lot-in;
-        remains = subst⁻¹ T (cell-other (entry waits l a) l elsewhere) (held .remains);
-        lower = omega (arith, held .lower, least-stays a d (entry waits l a));
-      }
+  -- its call leaves the word of its lot, whose rows are worked out
+  module _ (word : ℕ) (w : Without (getD lefts (x / 32) 0) (x % 32) word) (tails′ least′ : List ℕ)
+      (q : RowsOf rooms n word (x / 32) tails tails′ least least′) where
+    at-it : getD (set lefts (x / 32) word) (x / 32) 0 ≡ word
+    at-it = getD-set-same lefts (x / 32) word 0 (omega (arith, h .lefts-hold .long))
 
-  -- all of it
-  pub holding-then : (tails tails′ least least′ waits asks asks′ lefts lefts′ : List ℕ) → x / 32 < P .lots → x % 32 < P .calls
-      → Holding P rest tails least waits asks lefts → RowsOf P (flags gone) (x / 32) tails tails′ least least′
-      → Lefts (flags gone) (P .lots) (P .calls) lefts′
-      → Asked waits (P .lots) (x / 32) (x % 32) asks asks′ → getD asks′ (x / 32) 0 ≡ getD lefts′ (x / 32) 0
-      → Holding P gone tails′ least′ waits asks′ lefts′
-  holding-then tails tails′ least least′ waits asks asks′ lefts lefts′ hi hj h r left u own = record {
-    ready = record {
-      eligible = remaining-then (h .ready .eligible);
+    left-then : Calls gone (x / 32) word
+    left-then l hl = by-cases (ℕ-discrete l (x % 32))
+        (λ e. subst⁻¹ (λ (b : ℕ). bit word b ≡ remains gone (x / 32) b) e (w .out ∙ sym (ap (λ (v : ℕ). not (eqb v 0)) cell-gone)))
+        (λ d. w .others l d ∙ h .lefts-hold .each (x / 32) hi l hl
+        ∙ ap (λ (v : ℕ). not (eqb v 0)) (sym (cell-other (x / 32) l (omega arith) (λ z. d (z .1)))))
+
+    lefts-then : Lefts gone n (set lefts (x / 32) word)
+    lefts-then = record {
+      each = λ a ha. by-cases (ℕ-discrete a (x / 32))
+          (λ e. subst⁻¹ (λ (b : ℕ). Calls gone b (getD (set lefts (x / 32) word) b 0)) e (subst⁻¹ (Calls gone (x / 32)) at-it left-then))
+          (λ d. subst⁻¹ (Calls gone a) (getD-set-other lefts (x / 32) a word 0 d) (λ l hl. h .lefts-hold .each a ha l hl
+          ∙ ap (λ (v : ℕ). not (eqb v 0)) (sym (cell-other a l (omega arith) (λ z. d (z .0))))));
+      long = simp length-set (h .lefts-hold .long);
+    }
+
+    rows-then : AllRows rooms (set lefts (x / 32) word) n n tails′ least′
+    rows-then = record {
+      stand = λ a ha. by-cases (ℕ-discrete a (x / 32))
+          (λ e. subst⁻¹ (λ (b : ℕ). Tails rooms n (getD (set lefts (x / 32) word) b 0) b 0 tails′) e
+          (subst⁻¹ (λ (v : ℕ). Tails rooms n v (x / 32) 0 tails′) at-it (q .stand)))
+          (λ d. subst⁻¹ (λ (v : ℕ). Tails rooms n v a 0 tails′) (getD-set-other lefts (x / 32) a word 0 d)
+          (tails-stay rooms n (getD lefts a 0) a (x / 32) tails tails′ few d (h .rows-hold .stand a ha) (q .apart)));
       rows = λ a ha k hk. by-cases (ℕ-discrete a (x / 32))
-          (λ e. subst (λ (b : ℕ). entry least′ b k ≡ leastGap P limit (flags gone) b k) (sym e) (r .row .passed k hk))
-          (λ d. r .row .others a k d (omega arith) ∙ h .ready .rows a ha k hk ∙ sym (least-stays a d k));
-    };
-    stand = λ a ha. by-cases (ℕ-discrete a (x / 32))
-        (λ e. subst (λ (b : ℕ). Tails P (flags gone) b 0 tails′) (sym e) (r .stand))
-        (λ d. tails-stay P (flags gone) calls-few lots-few a (x / 32) tails tails′ d (tails-then a d tails (h .stand a ha)) (r .apart));
-    waits-hold = waits-then waits (h .waits-hold);
-    asks-hold = asks-then (getD lefts′ (x / 32) 0) waits asks asks′ hj (left .each (x / 32) hi) (h .asks-hold) u own;
-    lefts-hold = left;
-    rest-long = simp length-set (h .rest-long);
-    tails-long = r .apart .long ∙ h .tails-long;
-    least-long = r .row .long ∙ h .least-long;
-  }
+          (λ e. subst⁻¹ (λ (b : ℕ). entry least′ b k ≡ leastFrom rooms (getD (set lefts (x / 32) word) b 0) b 0 k) e
+          (q .row .passed k hk ∙ ap (λ (v : ℕ). leastFrom rooms v (x / 32) 0 k) (sym at-it)))
+          (λ d. q .row .others a k d (omega arith) ∙ h .rows-hold .rows a ha k hk
+          ∙ ap (λ (v : ℕ). leastFrom rooms v a 0 k) (sym (getD-set-other lefts (x / 32) a word 0 d)));
+      tails-long = q .apart .long ∙ h .rows-hold .tails-long;
+      least-long = q .row .long ∙ h .rows-hold .least-long;
+    }
+
+    grows : (a k : ℕ) → a < n → k < n → entry least a k ≤ entry least′ a k
+    grows a k ha hk = by-cases (ℕ-discrete a (x / 32))
+        (λ e. subst⁻¹ (λ (b : ℕ). entry least b k ≤ entry least′ b k) e (omega (
+          arith,
+          h .rows-hold .rows (x / 32) hi k hk,
+          q .row .passed k hk,
+          least-grows rooms n (getD lefts (x / 32) 0) (x / 32) (x % 32) word w k,
+        )))
+        (λ d. omega (arith, q .row .others a k d (omega arith)))
+
+    waits-then : Waits gone least′ n waits
+    waits-then = record {
+      within = h .marks-hold .waits-hold .within;
+      passed = λ a l ha hl t k z hk. let hk′ : k < n = omega (arith, h .marks-hold .waits-hold .within a l ha hl) in
+          T-false (hinders gone least′ a l k) (λ u. let (on, lt) = hinders-says gone least′ a l k (T-true (hinders gone least′ a l k) u) in
+          omega (
+            arith,
+            passes-says live least a l k (h .marks-hold .waits-hold .passed a l ha hl (fewer a l ha t) k z hk) (fewer k l hk′ on),
+            stays a l ha t,
+            stays k l hk′ on,
+            grows a k ha hk′,
+          ));
+      long = h .marks-hold .waits-hold .long;
+    }
+
+    asks-then : (asks′ : List ℕ) → Asked waits n (x / 32) (x % 32) asks asks′ → getD asks′ (x / 32) 0 ≡ word → Asks gone least′ n waits asks′
+    asks-then asks′ u own = record {
+      each = λ a l ha hl t e. by-cases (ℕ-discrete a (x / 32))
+          (λ z. absurd (true≢false (sym (left-then l hl ∙ T-true (remains gone (x / 32) l) (subst (λ (b : ℕ). T (remains gone b l)) z t))
+          ∙ sym (ap (λ (v : ℕ). bit v l) own) ∙ subst (λ (b : ℕ). bit (getD asks′ b 0) l ≡ false) z e)))
+          (λ d. let i = u .passed a ha d in
+          still a l ha d t (h .marks-hold .asks-hold .each a l ha hl (fewer a l ha t) (if-unset _ _ _ _ l i e)) (asked-not a l i e));
+      long = u .long ∙ h .marks-hold .asks-hold .long;
+    }
+      where
+        -- a pair whose call is not asked for does not wait for the one that is taken
+        asked-not : (a l : ℕ) → IncludingIf (eqb (entry waits (x % 32) a) (x / 32)) (getD asks a 0) (x % 32) (getD asks′ a 0)
+            → bit (getD asks′ a 0) l ≡ false → (entry waits l a ≡ x / 32) × (l ≡ x % 32) → ⊥
+        asked-not a l i e z = true≢false (sym (i .own ∙ ap (λ (b : Bool). b || bit (getD asks a 0) (x % 32))
+            (eq-eqb (entry waits (x % 32) a) (x / 32) (subst (λ (b : ℕ). entry waits b a ≡ x / 32) (z .1) (z .0))))
+            ∙ subst (λ (b : ℕ). bit (getD asks′ a 0) b ≡ false) (z .1) e)
+
+        still : (a l : ℕ) → a < n → (a ≡ x / 32 → ⊥) → T (remains gone a l) → Hindered live least n a l (entry waits l a)
+            → ((entry waits l a ≡ x / 32) × (l ≡ x % 32) → ⊥) → Hindered gone least′ n a l (entry waits l a)
+        still a l ha d t held elsewhere =
+            let k = entry waits l a in
+            let hk : k < 32 = omega (arith, held .lot-in) in
+            let (on, lt) = hinders-says live least a l k (held .by-it) in
+            let same = cell-other k l hk elsewhere in
+            record {
+              lot-in = held .lot-in;
+              by-it = hinders-of gone least′ a l k (subst T (ap (λ (v : ℕ). not (eqb v 0)) (sym same)) on)
+                  (omega (arith, same, stays a l ha t, q .row .others a k d hk));
+            }
+
+    -- all of it
+    pub holding-then : (asks′ : List ℕ) → Asked waits n (x / 32) (x % 32) asks asks′ → getD asks′ (x / 32) 0 ≡ word
+        → Holding rooms n gone tails′ least′ waits asks′ (set lefts (x / 32) word)
+    holding-then asks′ u own = record {
+      live-holds = λ a l ha hl t. stays a l ha t ∙ h .live-holds a l ha hl (fewer a l ha t);
+      capped = capped-set live _ 0 (h .capped) (omega arith) (omega (arith, h .live-long));
+      live-long = simp length-set (h .live-long);
+      rows-hold = rows-then;
+      marks-hold = record { waits-hold = waits-then; asks-hold = asks-then asks′ u own };
+      lefts-hold = lefts-then;
+    }

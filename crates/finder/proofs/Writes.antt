@@ -8,12 +8,16 @@ use native.Mathlib.Omega.{arith}
 use borrow.Author.Tests.{le-ltb}
 use lib.ListN.{length, take, drop, set, getD, length-set, take-append-drop}
 use lib.Seq.{take-suc, take-suc-set, drop-set-lt, drop-drop}
+use Rattle.transport.specs.Problem.{Problem}
 use Rattle.transport.specs.Greedy.{Pair}
+use Rattle.transport.specs.Finder.{size, find}
+use Rattle.transport.proofs.Orders.Length.{order-length}
+use Rattle.transport.proofs.Finder.Find.{find-is-order}
 use Rattle.specification.specs.Bytes.{orderMark}
 use Rattle.files.specs.Files.{writeOpening}
 use Rattle.specification.specs.OrderFile.{pairs, pairBytes, orderFile}
 use Rattle.finder.specs.Work.{Finds}
-use Rattle.finder.specs.Writing.{Copied, CountIs, Orders}
+use Rattle.finder.specs.Writing.{Copied, Orders}
 use Rattle.finder.specs.declared.inner.Search.{Search}
 use Rattle.finder.specs.declared.inner.Search.the-variants.{Found, Nothing}
 
@@ -88,9 +92,13 @@ file-written count src before mid after few h seven opened r =
     behind = r .behind ∙ sym (drop-drop (2 * count) 7 mid) ∙ ap (λ (l : List ℕ). drop (2 * count) (drop 7 l)) e
         ∙ drop-drop (2 * count) 7 before
 
--- the whole answer, where the search's own is known
-pub counts-found : (r : Search) (count size : ℕ) → r ≡ Found count → CountIs r size → count ≡ size
-counts-found r count size e c = subst (λ (q : Search). CountIs q size) e c
+-- the whole answer, where the search's own is known; an order has as many pairs as are eligible
+pub counts-found : (P : Problem) (r : Search) (count : ℕ) (bytes : List ℕ) → r ≡ Found count → Finds (find P) r bytes → count ≡ size P
+counts-found P r count bytes e f = go (find P) refl f
+  where
+    go : (o : Option (List Pair)) → find P ≡ o → Finds o r bytes → count ≡ size P
+    go none q w = let z : _≡_ {A = ℕ} 0 1 = cc in absurd (omega arith)
+    go (some S) q w = let c : count ≡ length S = cc in c ∙ order-length (find-is-order P S q)
 
 pub orders-found : (o : Option (List Pair)) (r : Search) (count : ℕ) (bytes before after : List ℕ) → r ≡ Found count → Finds o r bytes
     → after ≡ orderFile (pairs count bytes) ++ drop (7 + 2 * count) before → Orders o (Found count) before after

@@ -1,7 +1,8 @@
--- The problem that a book and a table of offsets state, and what the finder's work arrays hold.
+-- The problem that a table of rooms states, and what the finder's work arrays hold.
 pub mod Table
+pub mod Rooms
+pub mod Words
+pub mod Rows
+pub mod Waiting
 pub mod Work
 pub mod Writing
-pub mod Rows
-pub mod Words
-pub mod Waiting

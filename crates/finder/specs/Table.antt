@@ -1,19 +1,18 @@
--- What the finder asks of a book and a table of offsets.
+-- What the finder asks of a book and a table of offsets, and a table filled row by row.
+use mathlib.Core.Path.{_≡_}
 use mathlib.Core.List.{List}
-use Prim.Native.Nat.{ℕ, _≤_}
-use Rattle.specification.specs.Bytes.{u32At}
-use Rattle.specification.specs.Book.{costLimit}
+use Prim.Native.Nat.{ℕ, _≤_, _<_}
+use lib.ListN.{length}
 use Rattle.book.specs.Table.{entry, Tabled}
-
-abbrev pub costAt : List ℕ → List ℕ → ℕ → ℕ → ℕ
-costAt book table i j = u32At book (entry table i j)
-
--- the largest cost
-abbrev pub limit : ℕ
-limit = costLimit
 
 -- at most 32 lots and 32 calls, and a table of places in the book with costs within the limit
 pub record Stated (book table : List ℕ) (n m : ℕ) : Type 0 where
   pub lots-few : n ≤ 32
   pub calls-few : m ≤ 32
   pub tabled : Tabled book table
+
+-- the first entries of row i are f's, and every other row is as it was
+pub record Filled (i : ℕ) (f : ℕ → ℕ) (count : ℕ) (before after : List ℕ) : Type 0 where
+  pub passed : (k : ℕ) → k < count → entry after i k ≡ f k
+  pub long : length after ≡ length before
+  pub others : (g k : ℕ) → (g ≡ i → ⊥) → k < 32 → entry after g k ≡ entry before g k

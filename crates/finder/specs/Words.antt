@@ -1,11 +1,12 @@
 -- Words of calls: call j is in a word where its bit j is set.
 use mathlib.Core.Path.{_≡_}
-use mathlib.Core.Bool.{Bool, true, false}
+use mathlib.Core.Logic.{_⊎_}
+use mathlib.Core.Bool.{Bool, true, false, _||_}
 use mathlib.Core.List.{List}
 use Prim.Native.Nat.{ℕ, _≤_, _<_}
-use lib.Dec.{T}
 use lib.ListN.{length, getD}
 use Rattle.specification.specs.Book.{bit}
+use Rattle.finder.specs.Rooms.{remains}
 
 -- r is the lowest call in the word
 pub record LowestIn (word r : ℕ) : Type 0 where
@@ -16,6 +17,15 @@ pub record LowestIn (word r : ℕ) : Type 0 where
 pub record HighestIn (word r : ℕ) : Type 0 where
   pub is-in : bit word r ≡ true
   pub none-above : (l : ℕ) → r < l → bit word l ≡ false
+
+-- a call in the word, or 32
+abbrev pub Stop : ℕ → ℕ → Type 0
+Stop word l = ((l < 32) × (bit word l ≡ true)) ⊎ (l ≡ 32)
+
+-- r is such a stop, above j
+pub record Above (word j r : ℕ) : Type 0 where
+  pub stop : Stop word r
+  pub higher : j < r
 
 -- the calls of the word below call j
 pub record Below (word j after : ℕ) : Type 0 where
@@ -28,22 +38,16 @@ pub record Without (word j after : ℕ) : Type 0 where
   pub others : (l : ℕ) → (l ≡ j → ⊥) → bit after l ≡ bit word l
   pub lower : bit word j ≡ true → after < word
 
--- call j is put into the word
-pub record Including (word j after : ℕ) : Type 0 where
-  pub is-in : bit after j ≡ true
+-- call j is put into the word where the test holds
+pub record IncludingIf (test : Bool) (word j after : ℕ) : Type 0 where
+  pub own : bit after j ≡ (test || bit word j)
   pub others : (l : ℕ) → (l ≡ j → ⊥) → bit after l ≡ bit word l
 
--- call j is put into the word where a and b are equal
-pub record IfEqual (word j a b after : ℕ) : Type 0 where
-  pub equal : a ≡ b → Including word j after
-  pub unequal : (a ≡ b → ⊥) → after ≡ word
+-- the word has the calls at which lot i has room
+abbrev pub Calls : List ℕ → ℕ → ℕ → Type 0
+Calls rooms i word = (j : ℕ) → j < 32 → bit word j ≡ remains rooms i j
 
--- the word holds each of the first calls that remains to lot i, and no other than those first calls
-pub record Calls (rest : ℕ → ℕ → Bool) (i count word : ℕ) : Type 0 where
-  pub holds : (j : ℕ) → j < count → T (rest i j) → bit word j ≡ true
-  pub within : (j : ℕ) → bit word j ≡ true → j < count
-
--- so does the word of each of the first lots
-pub record Lefts (rest : ℕ → ℕ → Bool) (n m : ℕ) (words : List ℕ) : Type 0 where
-  pub each : (i : ℕ) → i < n → Calls rest i m (getD words i 0)
+-- so has the word of each of the first lots
+pub record Lefts (rooms : List ℕ) (n : ℕ) (words : List ℕ) : Type 0 where
+  pub each : (i : ℕ) → i < n → Calls rooms i (getD words i 0)
   pub long : length words ≡ 32

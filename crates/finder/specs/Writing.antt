@@ -15,11 +15,6 @@ pub record Copied (src : List ℕ) (len : ℕ) (before : List ℕ) (start : ℕ)
   pub behind : drop (start + len) after ≡ drop (start + len) before
   pub long : length after ≡ length before
 
--- where an order was found, its count of pairs is that of the eligible pairs
-abbrev pub CountIs : Search → ℕ → Type 0
-CountIs (Found count) size = count ≡ size
-CountIs Nothing size = Unit {0}
-
 -- the answer and the buffer afterwards: the order file and what stood after it, or all as it was
 abbrev pub Orders : Option (List Pair) → Search → List ℕ → List ℕ → Type 0
 Orders none r before after = (r ≡ Nothing) × (after ≡ before)

@@ -1,5 +1,5 @@
 // Finding an order of a problem that a book's bytes and any table of offsets state, for the other crates.
-use super::remaining::fill_rest;
+use super::rooms::fill_rooms;
 use super::search::find_marked;
 ghost use Prim.Native.Nat.{_+_, _*_, _≤_};
 ghost use lib.ListN.{length};
@@ -20,7 +20,7 @@ pub fn find_by(book: &[u8], offsets: &[u16; 1024], n: usize, m: usize, buffer: &
     requires { ⌜ 7 + 2 * size (problemBy (now book) (now offsets) n m) ≤ length (now buffer) ⌝ }
     ensures { λ r. ⌜ Orders (find (problemBy (now (book .entry)) (now (offsets .entry)) n m)) r (now (buffer .entry)) (now (buffer .exit)) ⌝ }
 {
-    let mut rest: [u8; 1024] = [0; 1024];
-    let total = fill_rest(offsets, n, m, &mut rest);
-    find_marked(book, offsets, n, m, total, &mut rest, buffer)
+    let mut rooms: [u32; 1024] = [0; 1024];
+    let total = fill_rooms(book, offsets, n, m, &mut rooms);
+    find_marked(&rooms, n, m, total, buffer)
 }

@@ -1,8 +1,7 @@
 // Finding an order (document 01, "Finding an order"): the free pair of lowest lot, then lowest call, is taken until none remains or none is
 // free. A pair is free where, against each lot that still has its call, its lot's gap is the least of those that remain.
-mod heads;
 pub mod inner;
-mod remaining;
+mod rooms;
 mod rows;
 mod search;
 mod waiting;
@@ -27,13 +26,13 @@ pub fn find_order(book: &[u8], order: &mut [u8]) -> Found
         return Found::Refused(files::refusal_of(counts));
     };
     let offsets = book::inner::offsets(book, n);
-    let mut rest: [u8; 1024] = [0; 1024];
-    let total = remaining::fill_rest(&offsets, n, m, &mut rest);
+    let mut rooms: [u32; 1024] = [0; 1024];
+    let total = rooms::fill_rooms(book, &offsets, n, m, &mut rooms);
     let length = 7 + 2 * total;
     if order.len() < length {
         return Found::Refused(Refusal::BufferTooShort);
     }
-    let found = search::find_marked(book, &offsets, n, m, total, &mut rest, order);
+    let found = search::find_marked(&rooms, n, m, total, order);
     let Search::Found(_) = found else {
         return Found::Refused(Refusal::NoOrder);
     };

@@ -1,9 +1,10 @@
 // Words of calls: call j is in a word where its bit j is set. For each lot, the word of the calls that remain to it.
 ghost use mathlib.Core.Path.{_≡_};
-ghost use Prim.Native.Nat.{_≤_, _<_};
+ghost use Prim.Native.Nat.{ℕ, _≤_, _<_};
 ghost use lib.ListN.{length};
-ghost use Rattle.finder.specs.Work.{flags};
-ghost use Rattle.finder.specs.Words.{LowestIn, HighestIn, Below, Without, IfEqual, Calls, Lefts};
+ghost use Rattle.book.specs.Table.{entry};
+ghost use Rattle.finder.specs.Rooms.{Rooms};
+ghost use Rattle.finder.specs.Words.{LowestIn, HighestIn, Above, Below, Without, IncludingIf, Calls, Lefts};
 
 // The lowest call in a word.
 pub fn lowest(word: u32) -> usize
@@ -19,6 +20,21 @@ pub fn highest(word: u32) -> usize
     ensures { λ r. ⌜ HighestIn word r × (r < 32) ⌝ }
 {
     (31 - u32::leading_zeros(word)) as usize
+}
+
+// The lowest call in a word above a call, or 32.
+pub fn above(word: u32, j: usize) -> usize
+    requires { ⌜ j < 32 ⌝ }
+    ensures { λ r. ⌜ Above word j r ⌝ }
+{
+    if j == 31 {
+        return 32;
+    }
+    let high = word >> (j + 1);
+    if high == 0 {
+        return 32;
+    }
+    lowest(high) + (j + 1)
 }
 
 // The calls of a word below a call.
@@ -39,36 +55,36 @@ pub fn without(word: u32, j: usize) -> u32
     word - (((word >> j) % 2) << j)
 }
 
-// The word with a call where two bytes are equal, and else as it was.
-pub fn with_equal(word: u32, j: usize, a: u8, b: u8) -> u32
+// The word with a call where the test holds, and else as it was.
+pub fn including_if(test: bool, word: u32, j: usize) -> u32
     requires { ⌜ j < 32 ⌝ }
-    ensures { λ r. ⌜ IfEqual word j a b r ⌝ }
+    ensures { λ r. ⌜ IncludingIf test word j r ⌝ }
 {
-    if a == b { word | (1u32 << j) } else { word }
+    if test { word | (1u32 << j) } else { word }
 }
 
 // The calls that remain to lot i.
-fn left_of(rest: &[u8; 1024], m: usize, i: usize) -> u32
-    requires { ⌜ (i < 32) × (m ≤ 32) ⌝ }
-    ensures { λ r. ⌜ Calls (flags (now (rest .entry))) i m r ⌝ }
+fn left_of(rooms: &[u32; 1024], m: usize, i: usize) -> u32
+    requires { ⌜ (m ≤ 32) × (i < 32) × ((j : ℕ) → m ≤ j → j < 32 → entry (now rooms) j i ≡ 0) ⌝ }
+    ensures { λ r. ⌜ Calls (now (rooms .entry)) i r ⌝ }
 {
     let mut word = 0;
     let mut j = 0;
     while j < m {
-        word = with_equal(word, j, rest[32 * i + j], 1);
+        word = including_if(rooms[32 * j + i] != 0, word, j);
         j += 1;
     }
     word
 }
 
 // The calls that remain to each lot.
-pub fn fill_lefts(rest: &[u8; 1024], n: usize, m: usize, lefts: &mut [u32; 32])
-    requires { ⌜ (n ≤ 32) × (m ≤ 32) × (length (now lefts) ≡ 32) ⌝ }
-    ensures { λ r. ⌜ Lefts (flags (now (rest .entry))) n m (now (lefts .exit)) ⌝ }
+pub fn fill_lefts(rooms: &[u32; 1024], n: usize, m: usize, lefts: &mut [u32; 32])
+    requires { ⌜ Rooms (now rooms) n m × (length (now lefts) ≡ 32) ⌝ }
+    ensures { λ r. ⌜ Lefts (now (rooms .entry)) n (now (lefts .exit)) ⌝ }
 {
     let mut i = 0;
     while i < n {
-        lefts[i] = left_of(rest, m, i);
+        lefts[i] = left_of(rooms, m, i);
         i += 1;
     }
 }

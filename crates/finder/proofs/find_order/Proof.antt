@@ -7,14 +7,14 @@ use Prim.Native.Nat.{ℕ, _+_, _*_, _≤_}
 use native.Mathlib.Omega.{arith}
 use lib.ListN.{length}
 use Rattle.transport.specs.Finder.{size}
-use Rattle.transport.proofs.Finder.Same.{size-of-same}
+use Rattle.transport.proofs.Finder.Same.{Same, size-of-same, find-of-same}
 use Rattle.specification.specs.Reply.{gives, statedCounts}
 use Rattle.specification.specs.Book.{readBook, problemOf}
 use Rattle.specification.specs.Find.{orderLength}
 use Rattle.specification.proofs.Books.{size-within}
+use Rattle.book.specs.Table.{problemBy}
 use Rattle.book.proofs.Readable.{Read, counts-are}
-use Rattle.finder.proofs.Books.{states-same, stated, count-is, refusal-is, found-refused, found-short, refused-replies}
-use Rattle.finder.proofs.Books.{none-replies, some-replies}
+use Rattle.finder.proofs.Books.{states-same, stated, refusal-is, found-refused, found-short, refused-replies, none-replies, some-replies}
 use Rattle.finder.proofs.find_order.Statement.{statement}
 use Rattle.finder.proofs.find_order.Tie as tie
 
@@ -25,9 +25,6 @@ module _ (c : tie.After-known-told) where
 
   abbrev book : List ℕ
   book = start .args .book .now
-
-  abbrev order : List ℕ
-  order = start .args .order .now
 
   abbrev n : ℕ
   n = c .before .counts .given .0 .0
@@ -41,20 +38,26 @@ module _ (c : tie.After-known-told) where
   read : Read book n m
   read = counts-are _ (sym gave)
 
-size-is : (c : tie.After-fill-rest) → c .fill-rest .result ≡ size (problemOf (book (c .before .before .before .before)))
-size-is c = c .fill-rest .ensures .1 ∙ count-is _ _ _ _ (read (c .before .before .before .before)) (c .before .before .before .offsets .ensures)
+-- its table of offsets states its problem, and the table of rooms the same
+by-table : (c : tie.After-offsets) → Same (problemBy (book (c .before)) (c .offsets .result) (n (c .before)) (m (c .before))) (problemOf (book (c .before)))
+by-table c = states-same _ _ _ _ (read (c .before)) (c .offsets .ensures)
+
+size-is : (c : tie.After-fill-rooms) → c .fill-rooms .result ≡ size (problemOf (book (c .before .before .before .before)))
+size-is c = c .fill-rooms .ensures .1 .1 ∙ sym (size-of-same (c .fill-rooms .ensures .0)) ∙ size-of-same (by-table (c .before .before .before))
+
+long-enough : (c : tie.Else1) → orderLength (book (c .before .before .before .before .before)) ≤ length (start (c .before .before .before .before .before) .args .order .now)
+long-enough c = omega (arith, size-is (c .before), c .if1 .left)
 
 returns : tie.Need-returns
-returns c = refused-replies _ _ _ _ (found-refused _ _
+returns c =
+    refused-replies _ _ _ _ (found-refused _ _
     (refusal-is _ _ _ _ (c .before .before .before .read-book .ensures) (c .before .enum-told .given .1) (c .refusal-of .ensures)))
 
 offsets-requires : tie.Need-offsets-requires
 offsets-requires c κs = (read c .is-readable, read c .lots-is)
 
-fill-rest-requires : tie.Need-fill-rest-requires
-fill-rest-requires c κs =
-    let s = stated _ _ _ _ (read (c .before .before .before)) (c .before .before .offsets .ensures) in
-    (s .lots-few, s .calls-few, refl)
+fill-rooms-requires : tie.Need-fill-rooms-requires
+fill-rooms-requires c κs = (stated _ _ _ _ (read (c .before .before .before)) (c .before .before .offsets .ensures), refl)
 
 mul-length : tie.Need-mul-length
 mul-length c = omega (arith, size-is c, size-within (read (c .before .before .before .before) .known))
@@ -66,32 +69,18 @@ returns-2 : tie.Need-returns-2
 returns-2 c = refused-replies _ _ 17 [] (found-short _ _ (gave (c .before .before .before .before .before)) (omega (arith, size-is (c .before), c .if1 .taken)))
 
 find-marked-requires : tie.Need-find-marked-requires
-find-marked-requires c κs =
-    let k = c .before .before .before .before .before .before .before .before in
-    let f = c .before .before .before .before in
-    let is-its = c .before .before .before .before .before .before .before .offsets .ensures in (
-      stated _ _ _ _ (read k) is-its,
-      (
-        f .fill-rest .ensures .0,
-        (
-          f .fill-rest .ensures .1,
-          omega (arith, size-of-same (states-same _ _ _ _ (read k) is-its), size-is f, c .before .before .before .if1 .left),
-        ),
-      ),
-    )
-
-long-enough : (c : tie.Else1) → orderLength (book (c .before .before .before .before .before)) ≤ length (order (c .before .before .before .before .before))
-long-enough c = omega (arith, size-is (c .before), c .if1 .left)
+find-marked-requires c κs = let r = c .before .before .before .fill-rooms .ensures in (r .1 .0, r .1 .1, c .before .before .if1 .left)
 
 returns-3 : tie.Need-returns-3
-returns-3 c = none-replies _ _ _ _ _ _ (c .before .before .before .before .before .before .before .before .before .before .before .before .offsets .ensures) (gave (c .before .before .before .before .before .before .before .before .before .before .before .before .before)) (long-enough (c .before .before .before .before .before .before .before .before)) _
-    (c .before .before .before .before .find-marked .ensures) (c .enum-told3 .given .1)
+returns-3 c =
+    none-replies _ _ _ (gave (c .before .before .before .before .before .before .before .before .before .before .before .before)) (long-enough (c .before .before .before .before .before .before .before)) _ (sym (find-of-same (c .before .before .before .before .before .before .before .before .fill-rooms .ensures .0)) ∙ find-of-same (by-table (c .before .before .before .before .before .before .before .before .before .before .before)))
+    _ (c .before .before .before .before .find-marked .ensures) (c .enum-told3 .given .1)
 
 returns-4 : tie.Need-returns-4
 returns-4 c =
-    let replies = some-replies _ _ _ _ _ _ (c .before .before .before .before .before .before .before .before .before .before .before .before .offsets .ensures) (gave (c .before .before .before .before .before .before .before .before .before .before .before .before .before)) (long-enough (c .before .before .before .before .before .before .before .before)) _
-    (c .before .before .before .before .find-marked .ensures) _ (c .enum-told2 .given .1) in
-    (ap (λ (k : ℕ). gives (7 + 2 * k)) (size-is (c .before .before .before .before .before .before .before .before .before)) ∙ replies .0, replies .1)
+    let replies = some-replies _ _ _ (gave (c .before .before .before .before .before .before .before .before .before .before .before .before)) (long-enough (c .before .before .before .before .before .before .before)) _ (sym (find-of-same (c .before .before .before .before .before .before .before .before .fill-rooms .ensures .0)) ∙ find-of-same (by-table (c .before .before .before .before .before .before .before .before .before .before .before)))
+    _ (c .before .before .before .before .find-marked .ensures) _ (c .enum-told2 .given .1) in
+    (ap (λ (k : ℕ). gives (7 + 2 * k)) (size-is (c .before .before .before .before .before .before .before .before)) ∙ replies .0, replies .1)
 
 pub find-order-spec : {M : Type 1} → statement M
 find-order-spec =
@@ -103,7 +92,7 @@ find-order-spec =
     (λ c κs. search needs)
     returns
     offsets-requires
-    fill-rest-requires
+    fill-rooms-requires
     mul-length
     add-length
     returns-2

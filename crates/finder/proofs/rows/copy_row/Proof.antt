@@ -3,7 +3,7 @@ use mathlib.Core.Path.{_≡_, refl}
 use Prim.Native.Nat.{_-_, _≤_}
 use native.Mathlib.Omega.{arith}
 use Rattle.book.specs.Table.{entry}
-use Rattle.finder.specs.Work.{Filled}
+use Rattle.finder.specs.Table.{Filled}
 use Rattle.finder.proofs.Tables.{filled-none, filled-more}
 use Rattle.finder.proofs.rows.copy_row.Statement.{statement}
 use Rattle.finder.proofs.rows.copy_row.Tie as tie

@@ -2,66 +2,50 @@
 use mathlib.Core.Path.{_≡_}
 use Prim.Native.Nat.{ℕ, _+_, _*_, _-_, _≤_, _<_}
 use native.Mathlib.Omega.{arith}
-use Rattle.book.specs.Table.{entry, problemBy}
-use Rattle.finder.specs.Work.{flags}
-use Rattle.finder.specs.Waiting.{AllRows}
-use Rattle.finder.proofs.Marks.{begun-last, all-rows-more, ends-stay}
+use Rattle.book.specs.Table.{entry}
+use Rattle.finder.specs.Rows.{AllRows}
+use Rattle.finder.proofs.Lowering.{begun-last, all-rows-more, ends-stay}
 use Rattle.finder.proofs.rows.fill_rows.Statement.{statement}
 use Rattle.finder.proofs.rows.fill_rows.Tie as tie
 
 abbrev Inv-loop : tie.InvT-loop
-Inv-loop book offsets heads rest n m lefts tails₀ least₀ i₀ tails least i =
-    (i ≤ n) × AllRows (problemBy book offsets n m) (flags rest) i tails least
+Inv-loop rooms n lefts tails₀ least₀ i₀ tails least i =
+    (i ≤ n) × AllRows rooms lefts n i tails least
     × ((a : ℕ) → i ≤ a → a < n → (k : ℕ) → k < n → entry tails (33 * a + 32) k ≡ 2000001)
 
 abbrev μ-loop : tie.MeasureT-loop
-μ-loop book offsets heads rest n m lefts tails₀ least₀ i₀ tails least i = n - i
+μ-loop rooms n lefts tails₀ least₀ i₀ tails least i = n - i
 
 loop-holds : tie.Need-loop-holds Inv-loop μ-loop
 loop-holds c =
-    let p = c .before .pre .1 .1 .1 .1 in (
+    let p = c .pre in (
       omega arith,
-      record { stand = λ i h. absurd (omega arith); rows = λ i h. absurd (omega arith); tails-long = p .1; least-long = p .2 },
-      λ a h. p .0 a,
+      record { stand = λ i h. absurd (omega arith); rows = λ i h. absurd (omega arith); tails-long = p .3; least-long = p .4 },
+      λ a h. p .2 a,
     )
 
 row-from-requires : tie.Need-row-from-requires Inv-loop μ-loop
 row-from-requires c κs =
-    let a = c .before .before .before .before .before .before .args in
-    let p = c .before .before .before .before .before .before .pre in
+    let a = c .before .before .before .before .before .args in
+    let p = c .before .before .before .before .before .pre in
     let inv = c .before .before .before .before .loop .inv in (
-      p .0,
-      (
-        p .1 .0,
-        (
-          p .1 .1 .0,
-          (
-            (c .before .before .before .loop-test .taken, omega arith, inv .1 .tails-long, inv .1 .least-long),
-            (
-              begun-last (problemBy (a .book .now) (a .offsets .now) (a .n) (a .m)) (flags (a .rest .now)) (p .0 .calls-few) (p .0
-                  .lots-few) _ _ (inv .2 _ (omega arith) (c .before .before .before .loop-test .taken)),
-              p .1 .1 .1 .0 .each _ (c .before .before .before .loop-test .taken),
-            ),
-          ),
-        ),
-      ),
+      (p .0, omega arith, inv .1 .tails-long, inv .1 .least-long, p .1),
+      begun-last (a .rooms .now) (a .n) _ _ (p .0) _ (inv .2 _ (omega arith) (c .before .before .before .loop-test .taken)),
     )
 
 loop-again : tie.Need-loop-again Inv-loop μ-loop
 loop-again c =
-    let a = c .before .before .before .before .before .before .before .args in
-    let p = c .before .before .before .before .before .before .before .pre in
+    let a = c .before .before .before .before .before .before .args in
+    let few = c .before .before .before .before .before .before .pre .0 in
     let inv = c .before .before .before .before .before .loop .inv in
     let r = c .row-from .ensures in (
       omega arith,
-      all-rows-more (problemBy (a .book .now) (a .offsets .now) (a .n) (a .m)) (flags (a .rest .now)) (p .0 .calls-few)
-          (p .0 .lots-few) _ _ _ _ _ (inv .1) r,
-      ends-stay (problemBy (a .book .now) (a .offsets .now) (a .n) (a .m)) (flags (a .rest
-          .now)) (p .0 .calls-few) (p .0 .lots-few) _ _ _ (inv .2) (r .apart),
+      all-rows-more (a .rooms .now) (a .lefts .now) (a .n) few _ _ _ _ _ (inv .1) r,
+      ends-stay (a .rooms .now) (a .lefts .now) (a .n) few _ _ _ (inv .2) (r .apart),
     )
 
 returns : tie.Need-returns Inv-loop μ-loop
-returns c = let e : c .before .loop .i ≡ c .before .before .before .args .n = omega arith in rw e at (c .before .loop .inv .1)
+returns c = let e : c .before .loop .i ≡ c .before .before .args .n = omega arith in rw e at (c .before .loop .inv .1)
 
 pub fill-rows-spec : {M : Type 1} → statement M
 fill-rows-spec =
@@ -71,7 +55,7 @@ fill-rows-spec =
     μ-loop
     loop-holds
     (λ c. omega arith)
-    (λ c. omega (arith, c .before .before .before .pre .0 .lots-few))
+    (λ c. omega arith)
     row-from-requires
     (λ c. omega arith)
     (λ c. omega arith)

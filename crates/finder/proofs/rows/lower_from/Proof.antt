@@ -1,76 +1,70 @@
--- `finder::rows::lower_from` meets its contract. The invariant: the rows from p on are worked out, `up` the lowest of them,
--- and the calls below p are in the word.
-use mathlib.Core.Path.{_≡_}
+-- `finder::rows::lower_from` meets its contract. The invariant: the rows of the calls in the word from `up` on stand, and `calls` has those below.
+use mathlib.Core.Path.{_≡_, _∙_}
 use Prim.Native.Nat.{_≤_}
 use native.Mathlib.Omega.{arith}
-use Rattle.book.specs.Table.{problemBy}
-use Rattle.finder.specs.Work.{flags}
-use Rattle.finder.specs.Rows.{Lowered}
-use Rattle.finder.specs.Words.{Calls}
-use Rattle.finder.proofs.Lowering.{lowered-start, lowered-more, begun-down}
-use Rattle.finder.proofs.Asking.{calls-below, calls-next, none-between, none-left}
+use Rattle.finder.specs.Words.{Below}
+use Rattle.finder.specs.Rows.{Begun, Apart}
+use Rattle.finder.proofs.Lowering.{stop-le, apart-refl, below-in, below-next, begun-next, apart-next}
 use Rattle.finder.proofs.rows.lower_from.Statement.{statement}
 use Rattle.finder.proofs.rows.lower_from.Tie as tie
 
 abbrev Inv-loop : tie.InvT-loop
-Inv-loop book offsets heads rest n m start above left tails₀ i up₀ p₀ calls₀ tails up p calls =
-    (p ≤ m) × Lowered (problemBy book offsets n m) (flags rest) i p up tails₀ tails × Calls (flags rest) i p calls
+Inv-loop rooms n above left tails₀ i up₀ calls₀ tails up calls =
+    Begun rooms n left i up tails × Apart i tails₀ tails × Below left up calls
 
 abbrev μ-loop : tie.MeasureT-loop
-μ-loop book offsets heads rest n m start above left tails₀ i up₀ p₀ calls₀ tails up p calls = calls
+μ-loop rooms n above left tails₀ i up₀ calls₀ tails up calls = calls
+
+-- the lowest row that stands is one of the lot's
+up-le : (c : tie.At-loop Inv-loop μ-loop) → c .loop .up ≤ 32
+up-le c = stop-le (c .before .before .args .left) (c .loop .up) (c .loop .inv .0 .stop)
 
 loop-holds : tie.Need-loop-holds Inv-loop μ-loop
-loop-holds c =
-    let a = c .before .before .args in
-    let p = c .before .before .pre in (
-      p .1 .1 .1 .0 .1,
-      lowered-start (problemBy (a .book .now) (a .offsets .now) (a .n) (a .m)) (flags (a .rest .now)) (a .lot .0) _ _ _
-          (p .1 .1 .1 .1 .0),
-      calls-below (flags (a .rest .now)) (a .lot .0) _ _ _ _ (p .1 .1 .1 .0 .1) (p .1 .1 .1 .1 .1) (c .below .ensures),
+loop-holds c = (c .before .pre .1, apart-refl _ _, c .below .ensures)
+
+add-lower-row : tie.Need-add-lower-row Inv-loop μ-loop
+add-lower-row c = omega (arith, up-le (c .before .before .before))
+
+sub-lower-row : tie.Need-sub-lower-row Inv-loop μ-loop
+sub-lower-row c = c .before .before .before .before .before .before .pre .0 .3 _
+
+lower-row-requires : tie.Need-lower-row-requires Inv-loop μ-loop
+lower-row-requires c κs =
+    let p = c .before .before .before .before .before .before .pre in
+    let inv = c .before .before .before .before .loop .inv in
+    let high = c .before .before .highest .ensures in (
+      p .0 .0,
+      omega (arith, up-le (c .before .before .before .before)),
+      omega (arith, below-in _ _ _ _ (inv .2) (high .0 .is-in)),
+      omega arith,
+      high .1,
+      inv .1 .long ∙ p .0 .2,
+      p .0 .3,
     )
 
-lower-call-requires : tie.Need-lower-call-requires Inv-loop μ-loop
-lower-call-requires c κs =
-    let a = c .before .before .before .before .before .before .before .args in
-    let p = c .before .before .before .before .before .before .before .pre in
-    let inv = c .before .before .before .before .loop .inv in
-    let high = c .before .before .highest .ensures .0 in
-    let lower = inv .2 .within _ (high .is-in) in (
-      p .0,
-      (
-        p .1 .0,
-        (
-          p .1 .1 .0,
-          (
-            (p .1 .1 .1 .0 .0, omega (arith, lower, inv .0), omega (arith, inv .1 .apart .long, p .1 .1 .1 .0 .2)),
-            begun-down (problemBy (a .book .now) (a .offsets .now) (a .n) (a .m)) (flags (a .rest .now)) (a .lot .0) _ _ _ _
-                (omega (arith, lower)) (none-between (flags (a .rest .now)) (a .lot .0) _ _ _ (inv .2) high) (inv .1 .begun),
-          ),
-        ),
-      ),
-    )
+without-requires : tie.Need-without-requires Inv-loop μ-loop
+without-requires c κs = c .before .before .before .highest .ensures .1
+
+loop-less : tie.Need-loop-less Inv-loop μ-loop
+loop-less c = c .without .ensures .lower (c .before .before .before .before .highest .ensures .0 .is-in)
 
 loop-again : tie.Need-loop-again Inv-loop μ-loop
 loop-again c =
     let a = c .before .before .before .before .before .before .before .before .args in
-    let inv = c .before .before .before .before .before .loop .inv in
-    let high = c .before .before .before .highest .ensures .0 in (
-      omega (arith, inv .2 .within _ (high .is-in), inv .0),
-      lowered-more (problemBy (a .book .now) (a .offsets .now) (a .n) (a .m)) (flags (a .rest .now)) (a .lot .0) _ _ _ _ _ _
-          _ (inv .1) (c .lower-call .ensures),
-      calls-next (flags (a .rest .now)) (a .lot .0) _ _ _ _ (inv .2) high (c .before .before .without .ensures),
+    let few = c .before .before .before .before .before .before .before .before .pre .0 .0 in
+    let inv = c .before .before .before .before .before .before .loop .inv in
+    let high = c .before .before .before .before .highest .ensures .0 in
+    let row = c .before .lower-row .ensures in (
+      begun-next (a .rooms .now) (a .n) (a .left) (a .lot .0) few _ _ (inv .0) _ _ (inv .2) high _ row,
+      apart-next (a .rooms .now) (a .n) (a .left) (a .lot .0) few _ _ (inv .0) _ _ (inv .2) high _ row _ (inv .1),
+      below-next _ _ _ _ _ (inv .2) high (c .without .ensures),
     )
 
 returns : tie.Need-returns Inv-loop μ-loop
 returns c =
-    let a = c .before .before .before .before .args in
     let inv = c .before .loop .inv in
     let e : c .before .loop .calls ≡ 0 = omega arith in
-    record {
-      begun = begun-down (problemBy (a .book .now) (a .offsets .now) (a .n) (a .m)) (flags (a .rest .now)) (a .lot .0) _ _ _ _ (omega arith)
-          (none-left (flags (a .rest .now)) (a .lot .0) _ (rw e at (inv .2))) (inv .1 .begun);
-      apart = inv .1 .apart;
-    }
+    ((inv .0, rw e at (inv .2)), inv .1)
 
 pub lower-from-spec : {M : Type 1} → statement M
 lower-from-spec =
@@ -78,11 +72,20 @@ lower-from-spec =
     (tie.spec
     Inv-loop
     μ-loop
-    (λ c κs. tt)
+    (λ c κs. omega arith)
     loop-holds
     (λ c κs. omega arith)
-    (λ c κs. c .highest .ensures .1)
-    lower-call-requires
-    (λ c. c .before .before .without .ensures .lower (c .before .before .before .highest .ensures .0 .is-in))
+    (λ c. omega arith)
+    add-lower-row
+    (λ c. omega arith)
+    (λ c. omega arith)
+    (λ c. omega arith)
+    (λ c. omega arith)
+    (λ c. omega arith)
+    (λ c. omega arith)
+    sub-lower-row
+    lower-row-requires
+    without-requires
+    loop-less
     loop-again
     returns)

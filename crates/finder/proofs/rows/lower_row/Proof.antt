@@ -1,20 +1,20 @@
 -- `finder::rows::lower_row` meets its contract. The invariant: the entries passed are filled; the other row is as it was.
 use mathlib.Core.Path.{_≡_, _∙_, ap₂}
-use Prim.Native.Nat.{_-_, _≤_, min}
+use Prim.Native.Nat.{_+_, _*_, _-_, _≤_, min}
 use native.Mathlib.Omega.{arith}
 use Rattle.book.specs.Table.{entry}
-use Rattle.finder.specs.Work.{Filled}
-use Rattle.finder.proofs.Tables.{filled-none, filled-more}
+use Rattle.finder.specs.Table.{Filled}
 use Rattle.finder.specs.Rows.{gapBy}
+use Rattle.finder.proofs.Tables.{filled-none, filled-more}
 use Rattle.finder.proofs.rows.lower_row.Statement.{statement}
 use Rattle.finder.proofs.rows.lower_row.Tie as tie
 
 abbrev Inv-loop : tie.InvT-loop
-Inv-loop tails₀ heads n from to cost l k₀ tails k =
-    (k ≤ n) × Filled to (λ a. min (entry tails₀ from a) (gapBy cost (entry heads l a))) k tails₀ tails
+Inv-loop tails₀ rooms n from to cost l k₀ tails k =
+    (k ≤ n) × Filled to (λ a. min (entry tails₀ from a) (gapBy cost (entry rooms l a))) k tails₀ tails
 
 abbrev μ-loop : tie.MeasureT-loop
-μ-loop tails₀ heads n from to cost l k₀ tails k = n - k
+μ-loop tails₀ rooms n from to cost l k₀ tails k = n - k
 
 loop-holds : tie.Need-loop-holds Inv-loop μ-loop
 loop-holds c = (omega arith, filled-none _ _ _)
@@ -22,7 +22,7 @@ loop-holds c = (omega arith, filled-none _ _ _)
 gap-by-requires : tie.Need-gap-by-requires Inv-loop μ-loop
 gap-by-requires c κs =
     let p = c .before .before .before .before .pre in
-    (p .0 .4, p .1 (c .before .before .before .loop .k) (c .before .before .loop-test .taken))
+    (p .3, p .6 (32 * c .before .before .before .before .args .l + c .before .before .before .loop .k))
 
 lesser-requires : tie.Need-lesser-requires Inv-loop μ-loop
 lesser-requires c κs = tt
@@ -30,11 +30,10 @@ lesser-requires c κs = tt
 loop-again : tie.Need-loop-again Inv-loop μ-loop
 loop-again c =
     let a = c .before .before .before .before .before .before .args in
-    let p = c .before .before .before .before .before .before .pre in
     let inv = c .before .before .before .before .before .loop .inv in (
       omega arith,
-      filled-more _ _ _ _ _ _ (inv .1) (c .lesser .ensures ∙ ap₂ min (inv .1 .others (a .from) _ (p .0 .3) (omega
-          arith)) (c .before .gap-by .ensures)) (omega arith) (omega (arith, inv .1 .long)),
+      filled-more _ _ _ _ _ _ (inv .1) (c .lesser .ensures ∙ ap₂ min (inv .1 .others (a .from) _ (λ e. omega arith) (omega arith)) (c .before .gap-by .ensures))
+          (omega arith) (omega (arith, inv .1 .long)),
     )
 
 returns : tie.Need-returns Inv-loop μ-loop

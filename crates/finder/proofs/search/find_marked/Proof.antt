@@ -1,36 +1,35 @@
 -- `finder::search::find_marked` meets its contract. What the search found is written, or nothing is (`orders-found`, `orders-none`).
-use native.Mathlib.Omega.{arith}
 use borrow.Author.Needs.{needs}
+use native.Mathlib.Omega.{arith}
 use Rattle.transport.specs.Finder.{find}
-use Rattle.book.specs.Table.{problemBy}
+use Rattle.finder.specs.Rooms.{roomed}
 use Rattle.finder.proofs.Turns.{size-few}
 use Rattle.finder.proofs.Writes.{counts-found, orders-found, orders-none}
 use Rattle.finder.proofs.search.find_marked.Statement.{statement}
 use Rattle.finder.proofs.search.find_marked.Tie as tie
 
 find-pairs-requires : tie.Need-find-pairs-requires
-find-pairs-requires c κs = let p = c .before .before .before .before .pre in (p .0, (p .1 .0, (p .1 .1 .0, omega arith)))
+find-pairs-requires c κs = let p = c .before .before .pre in (p .0, p .1, omega arith)
 
 returns : tie.Need-returns
 returns c =
-    let a = c .before .before .before .before .before .before .before .before .args in
-    orders-none (find (problemBy (a .book .now) (a .offsets .now) (a .n) (a .m))) _ _ (a .buffer .now) (c .enum-told .given .1)
-    (c .before .before .before .find-pairs .ensures .0)
+    let a = c .before .before .before .before .before .before .args in
+    orders-none (find (roomed (a .rooms .now) (a .n) (a .m))) _ _ (a .buffer .now) (c .enum-told .given .1) (c .before .before .before .find-pairs .ensures)
 
 write-order-requires : tie.Need-write-order-requires
 write-order-requires c κs =
-    let a = c .before .before .before .before .before .before .before .before .before .before .before .args in
-    let p = c .before .before .before .before .before .before .before .before .before .before .before .pre in
+    let a = c .before .before .before .before .before .before .before .before .before .args in
+    let p = c .before .before .before .before .before .before .before .before .before .pre in
     let f = c .before .before .before .before .before .before .find-pairs in
-    let e = counts-found _ _ _ (c .before .before .before .found .given .1) (f .ensures .1) in
-    let few = size-few (a .book .now) (a .offsets .now) (a .n) (a .m) (p .0) in
-    (omega arith, omega (arith, f .kept .1 .1 .1 .1 .1 .1 .0), omega (arith, p .1 .1 .1))
+    let e = counts-found (roomed (a .rooms .now) (a .n) (a .m)) _ _ _ (c .before .before .before .found .given .1) (f .ensures) in
+    let few = size-few (a .rooms .now) (a .n) (a .m) (p .0) in
+    (omega arith, omega (arith, f .kept .1 .1 .1 .1 .0), omega (arith, p .1, p .2))
 
 returns-2 : tie.Need-returns-2
 returns-2 c =
-    let a = c .before .before .before .before .before .before .before .before .before .before .before .before .before .before .args in
-    orders-found (find (problemBy (a .book .now) (a .offsets .now) (a .n) (a .m))) _ _ _ (a .buffer .now) _ (c .before .before .before .before .before .before .found .given .1)
-    (c .before .before .before .before .before .before .before .before .before .find-pairs .ensures .0) (c .before .before .write-order .ensures)
+    let a = c .before .before .before .before .before .before .before .before .before .before .before .before .args in
+    orders-found (find (roomed (a .rooms .now) (a .n) (a .m))) _ _ _ (a .buffer .now) _ (c .before .before .before .before .before .before .found .given .1)
+    (c .before .before .before .before .before .before .before .before .before .find-pairs .ensures) (c .before .before .write-order .ensures)
 
 pub find-marked-spec : {M : Type 1} → statement M
 find-marked-spec =

@@ -1,65 +1,34 @@
 -- `finder::search::take_pair` meets its contract. All that is kept is kept of what remains then (`holding-then`).
-use mathlib.Core.Path.{refl}
-use Prim.Native.Nat.{_/_, _<_}
-use native.Mathlib.Omega.{arith}
-use lib.ListN.{length, length-set}
 use borrow.Author.Needs.{needs}
-use Rattle.book.specs.Table.{problemBy}
-use Rattle.finder.proofs.Taking.{live-then, lefts-then, remaining-then, begun-then, holding-then}
+use mathlib.Core.Path.{refl}
+use Prim.Native.Nat.{_/_, _%_}
+use native.Mathlib.Omega.{arith}
+use lib.ListN.{getD}
+use Rattle.finder.proofs.Taking.{begun-then, holding-then}
 use Rattle.finder.proofs.search.take_pair.Statement.{statement}
 use Rattle.finder.proofs.search.take_pair.Tie as tie
 
 row-from-requires : tie.Need-row-from-requires
 row-from-requires c κs =
-    let a = c .before .before .before .before .before .before .before .before .before .args in
-    let p = c .before .before .before .before .before .before .before .before .before .pre in
-    let h = p .1 .1 .0 in
-    let q = p .1 .1 .1 .1 in
-    let P = problemBy (a .book .now) (a .offsets .now) (a .n) (a .m) in
-    let place : a .x < length (a .rest .now) = omega (arith, q .0, h .rest-long) in (
-      p .0,
-      (
-        remaining-then P (p .0 .calls-few) (p .0 .lots-few) (a .rest .now) (a .x) place (h .ready .eligible),
-        (
-          p .1 .0,
-          (
-            (q .1, omega (arith, q .2), h .tails-long, h .least-long),
-            (
-              begun-then P (p .0 .calls-few) (p .0 .lots-few) (a .rest .now) (a .x) place _ _ (h .stand (a .x / 32) (q .1))
-                  (c .before .before .before .before .next-above .ensures),
-              lefts-then P (p .0 .calls-few) (p .0 .lots-few) (a .rest .now) (a .x) place _ (a .lefts .now) (omega arith) (h .lefts-hold)
-                  (c .before .before .before .before .before .before .without .ensures) .each (a .x / 32) (q .1),
-            ),
-          ),
-        ),
-      ),
+    let a = c .before .before .before .before .before .args in
+    let p = c .before .before .before .before .before .pre in
+    let h = p .1 in (
+      (p .0 .0, omega arith, h .rows-hold .tails-long, h .rows-hold .least-long, p .0 .1),
+      begun-then (a .rooms .now) (a .n) (getD (a .lefts .now) (a .x / 32) 0) (a .x / 32) (a .x % 32) _ (c .before .before .before .without .ensures) _ _
+          (h .rows-hold .stand (a .x / 32) (p .0 .3)) (c .before .before .above .ensures),
     )
 
 ask-again-requires : tie.Need-ask-again-requires
-ask-again-requires c κs =
-    let p = c .before .before .before .before .before .before .before .before .before .before .before .before .pre in
-    (p .0 .lots-few, p .1 .1 .1 .1 .1, omega arith, p .1 .1 .0 .asks-hold .long)
+ask-again-requires c κs = let p = c .before .before .before .before .before .before .before .pre in (p .0 .0, p .0 .3, omega arith, p .1 .marks-hold .asks-hold .long)
 
 returns : tie.Need-returns
 returns c =
-    let a = c .before .before .before .before .before .before .before .before .before .before .before .before .before .args in
-    let p = c .before .before .before .before .before .before .before .before .before .before .before .before .before .pre in
-    let h = p .1 .1 .0 in
-    let live = p .1 .1 .1 .0 in
-    let P = problemBy (a .book .now) (a .offsets .now) (a .n) (a .m) in
-    let place : a .x < length (a .rest .now) = omega (arith, p .1 .1 .1 .1 .0, h .rest-long) in (
+    let a = c .before .before .before .before .before .before .before .before .args in
+    let p = c .before .before .before .before .before .before .before .before .pre in
+    let r = c .ask-again .ensures in (
       refl,
-      (
-        holding-then P (p .0 .calls-few) (p .0 .lots-few) (a .rest .now) (a .x) place _ _ _ _
-            (a .waits .now) _ _ (a .lefts .now) _ (p .1 .1 .1 .1 .1) (p .1 .1 .1 .1 .2) h (c .before .before .before .row-from .ensures)
-            (lefts-then P (p .0 .calls-few) (p .0 .lots-few) (a .rest .now) (a .x) place _ (a .lefts .now) (omega arith) (h .lefts-hold)
-            (c .before .before .before .before .before .before .before .before .before .before .without .ensures)) (c .ask-again .ensures .0) (c .ask-again .ensures .1),
-        (
-          live-then P (p .0 .calls-few) (p .0 .lots-few) (a .rest .now) (a .x) place (a .book .now) (a .offsets .now) (a .live .now)
-              (p .1 .1 .1 .1 .0) (live .1) (live .0),
-          simp length-set (live .1),
-        ),
-      ),
+      holding-then (a .rooms .now) (a .n) (p .0 .0) _ _ _ _ _ _ (p .1) (a .x) (p .0 .2) (p .0 .3) _ (c .before .before .before .before .before .before .without .ensures) _ _ (c .before .before .row-from .ensures) _
+          (r .0) (r .1),
     )
 
 pub take-pair-spec : {M : Type 1} → statement M
@@ -72,15 +41,10 @@ take-pair-spec =
     (λ c. search needs)
     (λ c. search needs)
     (λ c. search needs)
-    (λ c. search needs)
     (λ c κs. search needs)
     (λ c. search needs)
     (λ c. search needs)
     (λ c κs. search needs)
-    (λ c. search needs)
-    (λ c. search needs)
     row-from-requires
-    (λ c. search needs)
-    (λ c. search needs)
     ask-again-requires
     returns)

@@ -1,4 +1,4 @@
--- `finder::waiting::ask_again` meets its contract. The invariant: the lots passed have the call in their words as `with_equal` says, and the
+-- `finder::waiting::ask_again` meets its contract. The invariant: the lots passed have the call in their words as `including_if` says, and the
 -- others are as they were.
 use mathlib.Core.Path.{_≡_}
 use Prim.Native.Nat.{_-_, _≤_}
@@ -10,7 +10,8 @@ use Rattle.finder.proofs.waiting.ask_again.Statement.{statement}
 use Rattle.finder.proofs.waiting.ask_again.Tie as tie
 
 abbrev Inv-loop : tie.InvT-loop
-Inv-loop waits n left asks₀ i j taken k₀ asks k = (k ≤ n) × Asked waits k i j asks₀ asks
+Inv-loop waits n left asks₀ i j taken k₀ asks k =
+    (k ≤ n) × Asked waits k i j asks₀ asks
 
 abbrev μ-loop : tie.MeasureT-loop
 μ-loop waits n left asks₀ i j taken k₀ asks k = n - k
@@ -21,7 +22,7 @@ loop-holds c = (omega arith, asked-none _ _ _ _)
 loop-again : tie.Need-loop-again Inv-loop μ-loop
 loop-again c =
     let inv = c .before .before .before .before .loop .inv in
-    (omega arith, asked-more _ _ _ _ _ _ _ (omega (arith, inv .1 .long)) (inv .1) (c .with-equal .ensures))
+    (omega arith, asked-more _ _ _ _ _ _ _ (omega (arith, inv .1 .long)) (inv .1) (c .including-if .ensures))
 
 returns : tie.Need-returns Inv-loop μ-loop
 returns c =

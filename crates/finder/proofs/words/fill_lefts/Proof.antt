@@ -2,26 +2,30 @@
 use mathlib.Core.Path.{_≡_}
 use Prim.Native.Nat.{_-_, _≤_}
 use native.Mathlib.Omega.{arith}
-use Rattle.finder.specs.Work.{flags}
 use Rattle.finder.specs.Words.{Lefts}
-use Rattle.finder.proofs.Asking.{lefts-none, lefts-more}
+use Rattle.finder.proofs.Asking.{lefts-more}
 use Rattle.finder.proofs.words.fill_lefts.Statement.{statement}
 use Rattle.finder.proofs.words.fill_lefts.Tie as tie
 
 abbrev Inv-loop : tie.InvT-loop
-Inv-loop rest n m lefts₀ i₀ lefts i = (i ≤ n) × Lefts (flags rest) i m lefts
+Inv-loop rooms n m lefts₀ i₀ lefts i =
+    (i ≤ n) × Lefts rooms i lefts
 
 abbrev μ-loop : tie.MeasureT-loop
-μ-loop rest n m lefts₀ i₀ lefts i = n - i
+μ-loop rooms n m lefts₀ i₀ lefts i = n - i
 
 loop-holds : tie.Need-loop-holds Inv-loop μ-loop
-loop-holds c = let a = c .args in (omega arith, lefts-none (flags (a .rest .now)) (a .m) (a .lefts .now) (c .pre .2))
+loop-holds c = (omega arith, record { each = λ i h. absurd (omega arith); long = c .pre .1 })
+
+left-of-requires : tie.Need-left-of-requires Inv-loop μ-loop
+left-of-requires c κs =
+    let p = c .before .before .pre .0 in
+    (p .calls-few, omega (arith, p .lots-few, c .loop-test .taken), λ j h hj. p .beyond _ j (c .loop-test .taken) h hj)
 
 loop-again : tie.Need-loop-again Inv-loop μ-loop
 loop-again c =
-    let a = c .before .before .before .args in
     let inv = c .before .before .loop .inv in
-    (omega arith, lefts-more (flags (a .rest .now)) (a .m) _ _ _ (omega arith) (inv .1) (c .left-of .ensures))
+    (omega arith, lefts-more (c .before .before .before .args .rooms .now) _ _ _ (omega (arith, c .before .before .before .pre .0 .lots-few)) (inv .1) (c .left-of .ensures))
 
 returns : tie.Need-returns Inv-loop μ-loop
 returns c =
@@ -35,7 +39,7 @@ fill-lefts-spec =
     Inv-loop
     μ-loop
     loop-holds
-    (λ c κs. (omega arith, omega arith))
+    left-of-requires
     (λ c. omega arith)
     (λ c. omega arith)
     (λ c. omega arith)

@@ -1,7 +1,7 @@
--- `finder::remaining::mark` meets its contract. Its two cases are those of `marked`.
+-- `finder::rooms::mark` meets its contract. Its two cases are those of `marked`.
 use borrow.Author.Tests.{eq-eqb, ne-eqb}
-use Rattle.finder.proofs.remaining.mark.Statement.{statement}
-use Rattle.finder.proofs.remaining.mark.Tie as tie
+use Rattle.finder.proofs.rooms.mark.Statement.{statement}
+use Rattle.finder.proofs.rooms.mark.Tie as tie
 
 returns : tie.Need-returns
 returns c = simp (eq-eqb _ _ (c .if1 .taken))

@@ -1,8 +1,8 @@
--- `finder::heads::gap_by` meets its contract. Its two cases are those of `gapBy`.
+-- `finder::rows::gap_by` meets its contract. Its two cases are those of `gapBy`.
 use borrow.Author.Needs.{needs}
 use Rattle.finder.proofs.Lowering.{gap-by-none, gap-by-some}
-use Rattle.finder.proofs.heads.gap_by.Statement.{statement}
-use Rattle.finder.proofs.heads.gap_by.Tie as tie
+use Rattle.finder.proofs.rows.gap_by.Statement.{statement}
+use Rattle.finder.proofs.rows.gap_by.Tie as tie
 
 returns : tie.Need-returns
 returns c = gap-by-none (c .before .args .cost) (c .before .args .room) (c .if1 .taken)
