@@ -21,7 +21,7 @@ use Rattle.specification.specs.Bytes.{u32At}
 use Rattle.specification.specs.Book.{costLimit}
 use Rattle.book.specs.Table.{entry, admitsBy, problemBy}
 use Rattle.finder.specs.Table.{Stated}
-use Rattle.finder.specs.Rooms.{remains, roomed, Capped, roomOf, marked}
+use Rattle.finder.specs.Rooms.{remains, roomed, Capped, roomOf, oneIf}
 use Rattle.finder.proofs.Tables.{positive}
 
 -- a pair remains exactly where it has room
@@ -32,8 +32,8 @@ module _ (rooms : List ℕ) (i j : ℕ) where
   pub remains-of : (entry rooms j i ≡ 0 → ⊥) → T (remains rooms i j)
   remains-of h = not-T (eqb (entry rooms j i) 0) (λ t. h (eqb→eq (entry rooms j i) 0 t))
 
-pub marked-le : (room : ℕ) → marked room ≤ 1
-marked-le room = counted-le (not (eqb room 0)) 1
+pub one-if-le : (room : ℕ) → oneIf room ≤ 1
+one-if-le room = counted-le (not (eqb room 0)) 1
 
 module _ (book table : List ℕ) (i j : ℕ) where
   pub room-none : entry table i j ≡ 0 → 0 ≡ roomOf book table i j
@@ -96,8 +96,8 @@ module _ (book table : List ℕ) (n m : ℕ) (s : Stated book table n m) (rooms 
           let h : entry table i j ≡ 0 → ⊥ = λ e. T-not (eqb (entry table i j) 0) (inner .1) (rw (eq-eqb (entry table i j) 0 e) tt) in
           omega (arith, cheap i j hi hj h, filled j hj i hi, room-some book table i j h)
 
-  pub count-rooms : sum m (λ l. sum n (λ i. marked (roomOf book table i l))) ≡ size (roomed rooms n m)
+  pub count-rooms : sum m (λ l. sum n (λ i. oneIf (roomOf book table i l))) ≡ size (roomed rooms n m)
   count-rooms =
-      sum-cong m _ _ (λ l hl. sum-cong n _ _ (λ i hi. sym (ap marked (filled l hl i hi))
+      sum-cong m _ _ (λ l hl. sum-cong n _ _ (λ i hi. sym (ap oneIf (filled l hl i hi))
       ∙ ap (λ (b : Bool). cond b 1 0) (sym (admits-is rooms n m i l hi hl))))
       ∙ sym (sum-swap n m (λ i j. cond (roomed rooms n m .admits i j) 1 0))

@@ -41,5 +41,5 @@ abbrev pub roomOf : List ℕ → List ℕ → ℕ → ℕ → ℕ
 roomOf book table i j = cond (not (eqb (entry table i j) 0)) (suc costLimit - u32At book (entry table i j)) 0
 
 -- 1 for a pair with room, 0 for one without
-abbrev pub marked : ℕ → ℕ
-marked room = cond (not (eqb room 0)) 1 0
+abbrev pub oneIf : ℕ → ℕ
+oneIf room = cond (not (eqb room 0)) 1 0

@@ -1,6 +1,6 @@
 // Finding an order of a problem that a book's bytes and any table of offsets state, for the other crates.
 use super::rooms::fill_rooms;
-use super::search::find_marked;
+use super::search::find_by_rooms;
 ghost use Prim.Native.Nat.{_+_, _*_, _≤_};
 ghost use lib.ListN.{length};
 ghost use Rattle.transport.specs.Finder.{size, find};
@@ -22,5 +22,5 @@ pub fn find_by(book: &[u8], offsets: &[u16; 1024], n: usize, m: usize, buffer: &
 {
     let mut rooms: [u32; 1024] = [0; 1024];
     let total = fill_rooms(book, offsets, n, m, &mut rooms);
-    find_marked(&rooms, n, m, total, buffer)
+    find_by_rooms(&rooms, n, m, total, buffer)
 }

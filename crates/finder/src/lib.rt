@@ -32,7 +32,7 @@ pub fn find_order(book: &[u8], order: &mut [u8]) -> Found
     if order.len() < length {
         return Found::Refused(Refusal::BufferTooShort);
     }
-    let found = search::find_marked(&rooms, n, m, total, order);
+    let found = search::find_by_rooms(&rooms, n, m, total, order);
     let Search::Found(_) = found else {
         return Found::Refused(Refusal::NoOrder);
     };

@@ -11,7 +11,7 @@ ghost use Rattle.transport.specs.Finder.{size};
 ghost use Rattle.transport.proofs.Finder.Same.{Same};
 ghost use Rattle.book.specs.Table.{problemBy, Tabled, CanRead};
 ghost use Rattle.finder.specs.Table.{Stated, Filled};
-ghost use Rattle.finder.specs.Rooms.{roomed, Capped, Rooms, roomOf, marked};
+ghost use Rattle.finder.specs.Rooms.{roomed, Capped, Rooms, roomOf, oneIf};
 
 // How far the cost of a pair lies below one more than the limit; 0 where the pair is not eligible.
 fn room_of(book: &[u8], offsets: &[u16; 1024], lot: Lot, call: Call) -> u32
@@ -25,8 +25,8 @@ fn room_of(book: &[u8], offsets: &[u16; 1024], lot: Lot, call: Call) -> u32
 }
 
 // 1 for a pair with room, 0 for one without.
-fn mark(room: u32) -> usize
-    ensures { λ r. ⌜ r ≡ marked room ⌝ }
+fn one_if(room: u32) -> usize
+    ensures { λ r. ⌜ r ≡ oneIf room ⌝ }
 {
     if room == 0 { 0 } else { 1 }
 }
@@ -40,15 +40,16 @@ fn fill_row(
     rooms: &mut [u32; 1024],
 ) -> usize
     requires { ⌜ Tabled (now book) (now offsets) × (n ≤ 32) × (l < 32) × (length (now rooms) ≡ 1024) × Capped (now rooms) ⌝ }
-    ensures { λ r. ⌜ Filled l (λ i. roomOf (now (book .entry)) (now (offsets .entry)) i l) n (now (rooms .entry)) (now (rooms .exit)) × Capped (now (rooms .exit)) ⌝ }
-    ensures { λ r. ⌜ (r ≡ sum n (λ i. marked (roomOf (now (book .entry)) (now (offsets .entry)) i l))) × (r ≤ n) ⌝ }
+    ensures { λ r. ⌜ Filled l (λ i. roomOf (now (book .entry)) (now (offsets .entry)) i l) n
+        (now (rooms .entry)) (now (rooms .exit)) × Capped (now (rooms .exit)) ⌝ }
+    ensures { λ r. ⌜ (r ≡ sum n (λ i. oneIf (roomOf (now (book .entry)) (now (offsets .entry)) i l))) × (r ≤ n) ⌝ }
 {
     let mut count = 0;
     let mut k = 0;
     while k < n {
         let room = room_of(book, offsets, Lot(k), Call(l));
         rooms[32 * l + k] = room;
-        count += mark(room);
+        count += one_if(room);
         k += 1;
     }
     count

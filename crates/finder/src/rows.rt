@@ -4,13 +4,13 @@ use super::words::highest;
 use super::words::without;
 use specification::Lot;
 ghost use mathlib.Core.Path.{_≡_};
-ghost use Prim.Native.Nat.{_≤_, _<_, min};
+ghost use Prim.Native.Nat.{_+_, _*_, _≤_, _<_, min};
 ghost use lib.ListN.{length};
 ghost use Rattle.book.specs.Table.{entry};
 ghost use Rattle.finder.specs.Table.{Filled};
 ghost use Rattle.finder.specs.Rooms.{Capped};
 ghost use Rattle.finder.specs.Words.{Below};
-ghost use Rattle.finder.specs.Rows.{gapBy, Ends, Apart, Begun, RowsOf, AllRows};
+ghost use Rattle.finder.specs.Rows.{gapBy, gapAt, Ends, Apart, Begun, RowsOf, AllRows};
 
 // The lesser of two numbers.
 fn lesser(a: u32, b: u32) -> u32
@@ -27,28 +27,24 @@ fn gap_by(cost: u32, room: u32) -> u32
     if room == 0 { 0 } else { cost + room }
 }
 
-// Row `to` becomes the lesser of row `from` and of the gaps of a cost at call l.
-fn lower_row(
-    tails: &mut [u32; 33792],
-    rooms: &[u32; 1024],
-    n: usize,
-    from: usize,
-    to: usize,
-    cost: u32,
-    l: usize,
-)
-    requires { ⌜ (n ≤ 32) × (from < 1056) × (to < from) × (cost ≤ 1000001) × (l < 32) × (length (now tails) ≡ 33792) × Capped (now rooms) ⌝ }
-    ensures { λ r. ⌜ Filled to (λ k. min (entry (now (tails .entry)) from k) (gapBy cost (entry (now (rooms .entry)) l k))) n
+// The row of lot i for call p becomes the lesser of the one for a call above it and of the gaps at call p.
+fn lower_row(tails: &mut [u32; 33792], rooms: &[u32; 1024], n: usize, i: usize, up: usize, p: usize)
+    requires { ⌜ (n ≤ 32) × (i < 32) × (p < up) × (up ≤ 32) × (length (now tails) ≡ 33792) × Capped (now rooms) ⌝ }
+    ensures { λ r. ⌜ Filled (33 * i + p) (λ k. min (entry (now (tails .entry)) (33 * i + up) k) (gapAt (now (rooms .entry)) i k p)) n
         (now (tails .entry)) (now (tails .exit)) ⌝ }
 {
+    let cost = 1000001 - rooms[32 * p + i];
     let mut k = 0;
     while k < n {
-        tails[32 * to + k] = lesser(tails[32 * from + k], gap_by(cost, rooms[32 * l + k]));
+        tails[32 * (33 * i + p) + k] = lesser(
+            tails[32 * (33 * i + up) + k],
+            gap_by(cost, rooms[32 * p + k]),
+        );
         k += 1;
     }
 }
 
-// The rows of lot i for its calls in the word below one, each from that of the next above it. The lowest call in the word, or 32.
+// The rows of lot i for its calls in the word below `above`, each from that of the next. The lowest call in the word, or 32.
 fn lower_from(
     rooms: &[u32; 1024],
     n: usize,
@@ -67,16 +63,8 @@ fn lower_from(
     let mut calls = below(left, above);
     while 0 < calls {
         let p = highest(calls);
-        lower_row(
-            tails,
-            rooms,
-            n,
-            33 * i + up,
-            33 * i + p,
-            1000001 - rooms[32 * p + i],
-            p,
-        );
         calls = without(calls, p);
+        lower_row(tails, rooms, n, i, up, p);
         up = p;
     }
     up
@@ -94,7 +82,7 @@ fn copy_row(tails: &[u32; 33792], n: usize, from: usize, i: usize, least: &mut [
     }
 }
 
-// The rows of lot i for its calls in the word below one, and its row of least gaps.
+// The rows of lot i for its calls in the word below `above`, and its row of least gaps.
 pub fn row_from(
     rooms: &[u32; 1024],
     n: usize,

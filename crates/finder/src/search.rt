@@ -20,10 +20,11 @@ ghost use Rattle.finder.specs.Work.{Holding, Finds};
 ghost use Rattle.finder.specs.Writing.{Orders};
 
 // The pair at place x is taken: its room goes, the rows of its lot are worked out, and the pairs that may be free then are to be tried.
+// By a place of 16 bits the compiler does not carry the addresses of a lot's rows through the search for the next pair.
 fn take_pair(
     rooms: &[u32; 1024],
     n: usize,
-    x: usize,
+    x: u16,
     live: &mut [u32; 1024],
     tails: &mut [u32; 33792],
     least: &mut [u32; 1024],
@@ -37,8 +38,8 @@ fn take_pair(
     ensures { λ r. ⌜ Holding (now (rooms .entry)) n (now (live .exit)) (now (tails .exit)) (now (least .exit)) (now (waits .entry))
         (now (asks .exit)) (now (lefts .exit)) ⌝ }
 {
-    let i = x / 32;
-    let j = x % 32;
+    let i = (x / 32) as usize;
+    let j = (x % 32) as usize;
     live[32 * j + i] = 0;
     let left = without(lefts[i], j);
     lefts[i] = left;
@@ -69,7 +70,7 @@ fn find_pairs(rooms: &[u32; 1024], n: usize, m: usize, total: usize, pairs: &mut
         take_pair(
             rooms,
             n,
-            x,
+            x as u16,
             &mut live,
             &mut tails,
             &mut least,
@@ -84,7 +85,7 @@ fn find_pairs(rooms: &[u32; 1024], n: usize, m: usize, total: usize, pairs: &mut
 }
 
 // The order file of the order that is found; where there is none, nothing, and the buffer as it was.
-pub fn find_marked(
+pub fn find_by_rooms(
     rooms: &[u32; 1024],
     n: usize,
     m: usize,

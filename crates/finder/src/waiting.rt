@@ -125,7 +125,7 @@ pub fn first_pair(
     let mut i = 0;
     while i < n {
         let j = first_call(live, least, n, i, waits, asks);
-        if j != 32 {
+        if j < 32 {
             return 32 * i + j;
         }
         i += 1;

@@ -6,7 +6,7 @@ use mathlib.Core.List.{List, []}
 use Prim.Native.Nat.{ℕ, _+_, _*_, _≤_}
 use native.Mathlib.Omega.{arith}
 use lib.ListN.{length}
-use Rattle.transport.specs.Finder.{size}
+use Rattle.transport.specs.Finder.{size, find}
 use Rattle.transport.proofs.Finder.Same.{Same, size-of-same, find-of-same}
 use Rattle.specification.specs.Reply.{gives, statedCounts}
 use Rattle.specification.specs.Book.{readBook, problemOf}
@@ -14,6 +14,7 @@ use Rattle.specification.specs.Find.{orderLength}
 use Rattle.specification.proofs.Books.{size-within}
 use Rattle.book.specs.Table.{problemBy}
 use Rattle.book.proofs.Readable.{Read, counts-are}
+use Rattle.finder.specs.Rooms.{roomed}
 use Rattle.finder.proofs.Books.{states-same, stated, refusal-is, found-refused, found-short, refused-replies, none-replies, some-replies}
 use Rattle.finder.proofs.find_order.Statement.{statement}
 use Rattle.finder.proofs.find_order.Tie as tie
@@ -42,6 +43,10 @@ module _ (c : tie.After-known-told) where
 by-table : (c : tie.After-offsets) → Same (problemBy (book (c .before)) (c .offsets .result) (n (c .before)) (m (c .before))) (problemOf (book (c .before)))
 by-table c = states-same _ _ _ _ (read (c .before)) (c .offsets .ensures)
 
+same-order : (c : tie.After-fill-rooms)
+    → find (roomed (c .fill-rooms .last .1 .1 .1 .1 .0) (n (c .before .before .before .before)) (m (c .before .before .before .before))) ≡ find (problemOf (book (c .before .before .before .before)))
+same-order c = sym (find-of-same (c .fill-rooms .ensures .0)) ∙ find-of-same (by-table (c .before .before .before))
+
 size-is : (c : tie.After-fill-rooms) → c .fill-rooms .result ≡ size (problemOf (book (c .before .before .before .before)))
 size-is c = c .fill-rooms .ensures .1 .1 ∙ sym (size-of-same (c .fill-rooms .ensures .0)) ∙ size-of-same (by-table (c .before .before .before))
 
@@ -68,19 +73,21 @@ add-length c = omega (arith, size-is c, size-within (read (c .before .before .be
 returns-2 : tie.Need-returns-2
 returns-2 c = refused-replies _ _ 17 [] (found-short _ _ (gave (c .before .before .before .before .before)) (omega (arith, size-is (c .before), c .if1 .taken)))
 
-find-marked-requires : tie.Need-find-marked-requires
-find-marked-requires c κs = let r = c .before .before .before .fill-rooms .ensures in (r .1 .0, r .1 .1, c .before .before .if1 .left)
+find-by-rooms-requires : tie.Need-find-by-rooms-requires
+find-by-rooms-requires c κs = let r = c .before .before .before .fill-rooms .ensures in (r .1 .0, r .1 .1, c .before .before .if1 .left)
 
 returns-3 : tie.Need-returns-3
 returns-3 c =
-    none-replies _ _ _ (gave (c .before .before .before .before .before .before .before .before .before .before .before .before)) (long-enough (c .before .before .before .before .before .before .before)) _ (sym (find-of-same (c .before .before .before .before .before .before .before .before .fill-rooms .ensures .0)) ∙ find-of-same (by-table (c .before .before .before .before .before .before .before .before .before .before .before)))
-    _ (c .before .before .before .before .find-marked .ensures) (c .enum-told3 .given .1)
+    let passed = c .before .before .before .before .before .before .before in
+    none-replies _ _ _ (gave (passed .before .before .before .before .before)) (long-enough passed) _ (same-order (passed .before)) _
+    (c .before .before .before .before .find-by-rooms .ensures) (c .enum-told3 .given .1)
 
 returns-4 : tie.Need-returns-4
 returns-4 c =
-    let replies = some-replies _ _ _ (gave (c .before .before .before .before .before .before .before .before .before .before .before .before)) (long-enough (c .before .before .before .before .before .before .before)) _ (sym (find-of-same (c .before .before .before .before .before .before .before .before .fill-rooms .ensures .0)) ∙ find-of-same (by-table (c .before .before .before .before .before .before .before .before .before .before .before)))
-    _ (c .before .before .before .before .find-marked .ensures) _ (c .enum-told2 .given .1) in
-    (ap (λ (k : ℕ). gives (7 + 2 * k)) (size-is (c .before .before .before .before .before .before .before .before)) ∙ replies .0, replies .1)
+    let passed = c .before .before .before .before .before .before .before in
+    let replies = some-replies _ _ _ (gave (passed .before .before .before .before .before)) (long-enough passed) _ (same-order (passed .before)) _
+    (c .before .before .before .before .find-by-rooms .ensures) _ (c .enum-told2 .given .1) in
+    (ap (λ (k : ℕ). gives (7 + 2 * k)) (size-is (passed .before)) ∙ replies .0, replies .1)
 
 pub find-order-spec : {M : Type 1} → statement M
 find-order-spec =
@@ -96,7 +103,7 @@ find-order-spec =
     mul-length
     add-length
     returns-2
-    find-marked-requires
+    find-by-rooms-requires
     (λ c. search needs)
     (λ c. search needs)
     (λ c. search needs)

@@ -7,7 +7,7 @@ use native.Mathlib.Omega.{arith}
 use lib.ListN.{length, length-replicate, getD-replicate}
 use Rattle.transport.specs.Problem.{sum}
 use Rattle.book.specs.Table.{entry}
-use Rattle.finder.specs.Rooms.{Capped, roomOf, marked}
+use Rattle.finder.specs.Rooms.{Capped, roomOf, oneIf}
 use Rattle.finder.proofs.Tables.{sum-more, rows-more}
 use Rattle.finder.proofs.Roomed.{capped-zeros, states-rooms, count-rooms}
 use Rattle.finder.proofs.rooms.fill_rooms.Statement.{statement}
@@ -15,7 +15,7 @@ use Rattle.finder.proofs.rooms.fill_rooms.Tie as tie
 
 abbrev Inv-loop : tie.InvT-loop
 Inv-loop book offsets n m rooms₀ count₀ l₀ rooms count l =
-    (l ≤ m) × (length rooms ≡ 1024) × Capped rooms × (count ≡ sum l (λ j. sum n (λ i. marked (roomOf book offsets i j)))) × (count ≤ 32 * l)
+    (l ≤ m) × (length rooms ≡ 1024) × Capped rooms × (count ≡ sum l (λ j. sum n (λ i. oneIf (roomOf book offsets i j)))) × (count ≤ 32 * l)
     × ((j : ℕ) → j < l → (i : ℕ) → i < n → entry rooms j i ≡ roomOf book offsets i j)
     × ((j : ℕ) → l ≤ j → j < 32 → (i : ℕ) → i < n → entry rooms j i ≡ 0)
 
@@ -54,7 +54,7 @@ loop-again c =
       omega arith,
       r .0 .0 .long ∙ inv .1,
       r .0 .1,
-      rw (r .1 .0, inv .3) (sum-more _ (λ j. sum (a .n) (λ i. marked (roomOf (a .book .now) (a .offsets .now) i j)))),
+      rw (r .1 .0, inv .3) (sum-more _ (λ j. sum (a .n) (λ i. oneIf (roomOf (a .book .now) (a .offsets .now) i j)))),
       omega (arith, s .lots-few),
       rows-more (λ j i. roomOf (a .book .now) (a .offsets .now) i j) (a .n) _ _ _ (s .lots-few) (inv .5) (r .0 .0),
       λ j h hj i hi. r .0 .0 .others j i (λ e. omega arith) (omega (arith, s .lots-few)) ∙ inv .6 j (omega arith) hj i hi,

@@ -4,16 +4,16 @@ use Prim.Native.Nat.{_+_, _*_, _-_, _≤_}
 use native.Mathlib.Omega.{arith}
 use Rattle.transport.specs.Problem.{sum}
 use Rattle.finder.specs.Table.{Filled}
-use Rattle.finder.specs.Rooms.{Capped, roomOf, marked}
+use Rattle.finder.specs.Rooms.{Capped, roomOf, oneIf}
 use Rattle.finder.proofs.Tables.{sum-more, filled-none, filled-more}
-use Rattle.finder.proofs.Roomed.{marked-le, room-le, capped-set}
+use Rattle.finder.proofs.Roomed.{one-if-le, room-le, capped-set}
 use Rattle.finder.proofs.rooms.fill_row.Statement.{statement}
 use Rattle.finder.proofs.rooms.fill_row.Tie as tie
 
 abbrev Inv-loop : tie.InvT-loop
 Inv-loop book offsets n l rooms₀ count₀ k₀ rooms count k =
     (k ≤ n) × Filled l (λ i. roomOf book offsets i l) k rooms₀ rooms × Capped rooms
-    × (count ≡ sum k (λ i. marked (roomOf book offsets i l))) × (count ≤ k)
+    × (count ≡ sum k (λ i. oneIf (roomOf book offsets i l))) × (count ≤ k)
 
 abbrev μ-loop : tie.MeasureT-loop
 μ-loop book offsets n l rooms₀ count₀ k₀ rooms count k = n - k
@@ -27,23 +27,25 @@ room-of-requires c κs =
     let p = c .before .before .before .pre in
     record { tabled = p .0; lot-in = omega (arith, p .1, c .loop-test .taken); call-in = p .2 }
 
-mark-requires : tie.Need-mark-requires Inv-loop μ-loop
-mark-requires c κs = tt
+one-if-requires : tie.Need-one-if-requires Inv-loop μ-loop
+one-if-requires c κs = tt
 
 add-count : tie.Need-add-count Inv-loop μ-loop
-add-count c = omega (arith, c .mark .ensures, marked-le (c .before .room-of .result))
+add-count c = omega (arith, c .one-if .ensures, one-if-le (c .before .room-of .result))
 
 loop-again : tie.Need-loop-again Inv-loop μ-loop
 loop-again c =
     let a = c .before .before .before .before .before .args in
-    let inv = c .before .before .before .loop .inv in
+    let loop = c .before .before .before .loop in
+    let inv = loop .inv in
     let room = c .before .room-of .ensures in
-    let le = marked-le (c .before .room-of .result) in (
+    let le = one-if-le (c .before .room-of .result) in (
       omega arith,
       filled-more _ _ _ _ _ _ (inv .1) room (omega arith) (omega (arith, inv .1 .long)),
-      capped-set (c .before .before .before .loop .rooms) (32 * a .l + c .before .before .before .loop .k) (c .before .room-of .result) (inv .2) (omega (arith, room-le (a .book .now) (a .offsets .now) (c .before .before .before .loop .k) (a .l))) (omega (arith, inv .1 .long)),
-      rw (c .mark .ensures, room, inv .3) (sum-more _ _),
-      omega (arith, c .mark .ensures),
+      capped-set (loop .rooms) (32 * a .l + loop .k) (c .before .room-of .result) (inv .2)
+          (omega (arith, room-le (a .book .now) (a .offsets .now) (loop .k) (a .l))) (omega (arith, inv .1 .long)),
+      rw (c .one-if .ensures, room, inv .3) (sum-more _ _),
+      omega (arith, c .one-if .ensures),
     )
 
 returns : tie.Need-returns Inv-loop μ-loop
@@ -64,7 +66,7 @@ fill-row-spec =
     (λ c. omega arith)
     (λ c. omega arith)
     (λ c. omega arith)
-    mark-requires
+    one-if-requires
     add-count
     (λ c. omega arith)
     (λ c. omega arith)

@@ -1,6 +1,5 @@
 -- `finder::rows::lower_from` meets its contract. The invariant: the rows of the calls in the word from `up` on stand, and `calls` has those below.
 use mathlib.Core.Path.{_≡_, _∙_}
-use Prim.Native.Nat.{_≤_}
 use native.Mathlib.Omega.{arith}
 use Rattle.finder.specs.Words.{Below}
 use Rattle.finder.specs.Rows.{Begun, Apart}
@@ -15,49 +14,40 @@ Inv-loop rooms n above left tails₀ i up₀ calls₀ tails up calls =
 abbrev μ-loop : tie.MeasureT-loop
 μ-loop rooms n above left tails₀ i up₀ calls₀ tails up calls = calls
 
--- the lowest row that stands is one of the lot's
-up-le : (c : tie.At-loop Inv-loop μ-loop) → c .loop .up ≤ 32
-up-le c = stop-le (c .before .before .args .left) (c .loop .up) (c .loop .inv .0 .stop)
+below-requires : tie.Need-below-requires Inv-loop μ-loop
+below-requires c κs = tt
 
 loop-holds : tie.Need-loop-holds Inv-loop μ-loop
 loop-holds c = (c .before .pre .1, apart-refl _ _, c .below .ensures)
 
-add-lower-row : tie.Need-add-lower-row Inv-loop μ-loop
-add-lower-row c = omega (arith, up-le (c .before .before .before))
-
-sub-lower-row : tie.Need-sub-lower-row Inv-loop μ-loop
-sub-lower-row c = c .before .before .before .before .before .before .pre .0 .3 _
+without-requires : tie.Need-without-requires Inv-loop μ-loop
+without-requires c κs = c .highest .ensures .1
 
 lower-row-requires : tie.Need-lower-row-requires Inv-loop μ-loop
 lower-row-requires c κs =
     let p = c .before .before .before .before .before .before .pre in
-    let inv = c .before .before .before .before .loop .inv in
-    let high = c .before .before .highest .ensures in (
+    let inv = c .before .before .before .before .loop .inv in (
       p .0 .0,
-      omega (arith, up-le (c .before .before .before .before)),
-      omega (arith, below-in _ _ _ _ (inv .2) (high .0 .is-in)),
-      omega arith,
-      high .1,
+      p .0 .1,
+      below-in _ _ _ _ (inv .2) (c .before .before .highest .ensures .0 .is-in),
+      stop-le (c .before .before .before .before .before .before .args .left) _ (inv .0 .stop),
       inv .1 .long ∙ p .0 .2,
       p .0 .3,
     )
 
-without-requires : tie.Need-without-requires Inv-loop μ-loop
-without-requires c κs = c .before .before .before .highest .ensures .1
-
 loop-less : tie.Need-loop-less Inv-loop μ-loop
-loop-less c = c .without .ensures .lower (c .before .before .before .before .highest .ensures .0 .is-in)
+loop-less c = c .before .before .without .ensures .lower (c .before .before .before .highest .ensures .0 .is-in)
 
 loop-again : tie.Need-loop-again Inv-loop μ-loop
 loop-again c =
-    let a = c .before .before .before .before .before .before .before .before .args in
-    let few = c .before .before .before .before .before .before .before .before .pre .0 .0 in
-    let inv = c .before .before .before .before .before .before .loop .inv in
-    let high = c .before .before .before .before .highest .ensures .0 in
-    let row = c .before .lower-row .ensures in (
+    let a = c .before .before .before .before .before .before .before .args in
+    let few = c .before .before .before .before .before .before .before .pre .0 .0 in
+    let inv = c .before .before .before .before .before .loop .inv in
+    let high = c .before .before .before .highest .ensures .0 in
+    let row = c .lower-row .ensures in (
       begun-next (a .rooms .now) (a .n) (a .left) (a .lot .0) few _ _ (inv .0) _ _ (inv .2) high _ row,
       apart-next (a .rooms .now) (a .n) (a .left) (a .lot .0) few _ _ (inv .0) _ _ (inv .2) high _ row _ (inv .1),
-      below-next _ _ _ _ _ (inv .2) high (c .without .ensures),
+      below-next _ _ _ _ _ (inv .2) high (c .before .before .without .ensures),
     )
 
 returns : tie.Need-returns Inv-loop μ-loop
@@ -72,20 +62,11 @@ lower-from-spec =
     (tie.spec
     Inv-loop
     μ-loop
-    (λ c κs. omega arith)
+    below-requires
     loop-holds
     (λ c κs. omega arith)
-    (λ c. omega arith)
-    add-lower-row
-    (λ c. omega arith)
-    (λ c. omega arith)
-    (λ c. omega arith)
-    (λ c. omega arith)
-    (λ c. omega arith)
-    (λ c. omega arith)
-    sub-lower-row
-    lower-row-requires
     without-requires
+    lower-row-requires
     loop-less
     loop-again
     returns)

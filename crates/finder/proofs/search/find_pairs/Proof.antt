@@ -7,7 +7,6 @@ use lib.ListN.{length}
 use Rattle.transport.specs.Finder.{next}
 use Rattle.finder.specs.Rooms.{remains, roomed}
 use Rattle.finder.specs.Work.{Holding}
-use Rattle.finder.proofs.Tables.{below-of}
 use Rattle.finder.proofs.Passing.{placed, next-of-first, none-of-first}
 use Rattle.finder.proofs.Turns.{Going, ends-first, holding-first, going-start, going-stop, going-done, going-next}
 use Rattle.finder.proofs.search.find_pairs.Statement.{statement}
@@ -29,8 +28,11 @@ module _ (c : tie.Else1 Inv-loop μ-loop) where
   abbrev start : tie.Start Inv-loop μ-loop
   start = c .before .before .before .before .before .before .before .before .before .before .before .before .before .before .before .before
 
+  more : top .loop .count < start .args .total
+  more = c .before .before .before .before .before .before .loop-test .taken
+
   place-in : c .before .first-pair .result < 1024
-  place-in = below-of _ 1024 (c .before .first-pair .ensures .0 .within) (c .if1 .left)
+  place-in = omega (arith, c .before .first-pair .ensures .0 .within, c .if1 .left)
 
   is-next : next (roomed (start .args .rooms .now) (start .args .n) (start .args .m)) (remains (top .loop .live)) ≡ some (placed (c .before .first-pair .result))
   is-next = next-of-first _ _ _ (start .pre .0) _ _ _ _ _ _ (top .loop .inv .2) _ (c .before .first-pair .ensures .0) place-in
@@ -60,18 +62,23 @@ same-length c = c .before .before .before .before .before .before .before .loop 
 
 returns : tie.Need-returns Inv-loop μ-loop
 returns c =
-    let a = c .before .before .before .before .before .before .before .before .before .before .before .before .before .before .before .before .args in
-    let r = c .before .before .before .before .before .before .before .before .before .before .before .before .before .before .before .before .pre .0 in
+    let start = c .before .before .before .before .before .before .before .before .before .before .before .before .before .before .before .before in
+    let a = start .args in
+    let r = start .pre .0 in
     let inv = c .before .before .before .before .before .before .before .loop .inv in
     going-stop (a .rooms .now) (a .n) (a .m) r _ _ _ _ (inv .1) (c .before .before .before .before .before .before .loop-test .taken)
     (none-of-first (a .rooms .now) (a .n) (a .m) r _ _ _ _ _ _ (inv .2) _ (c .before .first-pair .ensures .0) (c .if1 .taken))
 
+cast-take-pair : tie.Need-cast-take-pair Inv-loop μ-loop
+cast-take-pair c = omega (arith, place-in c)
+
 take-pair-requires : tie.Need-take-pair-requires Inv-loop μ-loop
 take-pair-requires c κs =
-    let r = c .before .before .before .before .before .before .before .before .before .before .before .before .before .before .before .before .before .before .before .before .before .before .pre .0 in
-    let h = c .before .before .before .before .before .before .before .before .before .before .before .before .before .loop .inv .2 in
+    let found = c .before .before .before .before .before .before in
+    let r = start found .pre .0 in
+    let h = top found .loop .inv .2 in
     let e = c .before .before .before .before .before .before .before .first-pair .ensures in
-    let place = place-in (c .before .before .before .before .before .before) in (
+    let place = place-in found in (
       (r .lots-few, r .capped, place, e .0 .passes place .0),
       record {
         live-holds = h .live-holds;
@@ -85,23 +92,24 @@ take-pair-requires c κs =
 
 put-requires : tie.Need-put-requires Inv-loop μ-loop
 put-requires c κs =
-    let inv = c .before .before .before .before .before .before .before .before .before .before .before .before .before .before .before .loop .inv in
-    let more = c .before .before .before .before .before .before .before .before .before .before .before .before .before .before .loop-test .taken in
-    (place-in (c .before .before .before .before .before .before .before .before), omega (arith, inv .1 .few), omega (arith, inv .0, c .before .before .before .before .before .before .before .before .before .before .before .before .before .before .before .before .before .before .before .before .before .before .before .before .pre .2))
+    let found = c .before .before .before .before .before .before .before .before in
+    let inv = top found .loop .inv in
+    (place-in found, omega (arith, inv .1 .few, more found), omega (arith, inv .0, start found .pre .2))
 
 add-count : tie.Need-add-count Inv-loop μ-loop
-add-count c = omega (arith, c .before .before .before .before .before .before .before .before .before .before .before .before .before .before .before .before .before .before .loop .inv .1 .few, c .before .before .before .before .before .before .before .before .before .before .before .before .before .before .before .before .before .loop-test .taken)
+add-count c = let found = c .before .before .before .before .before .before .before .before .before .before .before in omega (arith, top found .loop .inv .1 .few, more found)
 
 loop-less : tie.Need-loop-less Inv-loop μ-loop
-loop-less c = omega (arith, c .before .before .before .before .before .before .before .before .before .before .before .before .before .before .before .before .before .loop-test .taken)
+loop-less c = omega (arith, more (c .before .before .before .before .before .before .before .before .before .before .before))
 
 loop-again : tie.Need-loop-again Inv-loop μ-loop
 loop-again c =
-    let a = c .before .before .before .before .before .before .before .before .before .before .before .before .before .before .before .before .before .before .before .before .before .before .before .before .before .before .before .args in
-    let inv = c .before .before .before .before .before .before .before .before .before .before .before .before .before .before .before .before .before .before .loop .inv in
+    let found = c .before .before .before .before .before .before .before .before .before .before .before in
+    let a = start found .args in
+    let inv = top found .loop .inv in
     let t = c .before .before .before .before .take-pair .ensures in (
       c .before .before .put .kept .0 ∙ inv .0,
-      going-next (a .rooms .now) (a .n) (a .m) (c .before .before .before .before .before .before .before .before .before .before .before .before .before .before .before .before .before .before .before .before .before .before .before .before .before .before .before .pre .0) _ _ _ _ (inv .1) _ (place-in (c .before .before .before .before .before .before .before .before .before .before .before)) (c .before .before .before .before .before .before .before .before .before .before .before .before .before .before .before .before .before .loop-test .taken) (inv .2 .live-long) (is-next (c .before .before .before .before .before .before .before .before .before .before .before)) _ _
+      going-next (a .rooms .now) (a .n) (a .m) (start found .pre .0) _ _ _ _ (inv .1) _ (place-in found) (more found) (inv .2 .live-long) (is-next found) _ _
           (t .0) (c .before .before .put .ensures),
       t .1,
     )
@@ -127,6 +135,7 @@ find-pairs-spec =
     first-pair-requires
     same-length
     returns
+    cast-take-pair
     take-pair-requires
     put-requires
     add-count

@@ -25,16 +25,18 @@ returns : tie.Need-returns
 returns c =
     let a = c .before .before .before .before .before .before .before .before .args in
     let p = c .before .before .before .before .before .before .before .before .pre in
+    let rows = c .before .before .row-from .ensures in
     let r = c .ask-again .ensures in (
       refl,
-      holding-then (a .rooms .now) (a .n) (p .0 .0) _ _ _ _ _ _ (p .1) (a .x) (p .0 .2) (p .0 .3) _ (c .before .before .before .before .before .before .without .ensures) _ _ (c .before .before .row-from .ensures) _
-          (r .0) (r .1),
+      holding-then (a .rooms .now) (a .n) (p .0 .0) _ _ _ _ _ _ (p .1) (a .x) (p .0 .2) (p .0 .3) _ (c .before .before .before .before .before .before .without .ensures) _ _ rows _ (r .0) (r .1),
     )
 
 pub take-pair-spec : {M : Type 1} → statement M
 take-pair-spec =
     tie.close
     (tie.spec
+    (λ c. search needs)
+    (λ c. search needs)
     (λ c. search needs)
     (λ c. search needs)
     (λ c. search needs)

@@ -29,11 +29,14 @@ returns : tie.Need-returns Inv-loop μ-loop
 returns c =
     let a = c .before .before .before .before .before .before .before .before .args in
     let p = c .before .before .before .before .before .before .before .before .pre in
-    let inv = c .before .before .before .before .before .before .before .loop .inv in
+    let h = c .before .before .before .before .before .before .before .loop .inv .asks-hold in
     let low = c .before .before .before .lowest .ensures in
     let t = c .before .try-call .ensures in (
-      first-lowest (a .live .now) (a .least .now) (a .n) (a .i) (p .0 .1) (p .0 .0) _ _ (inv .asks-hold) _ _ _ (low .0 .is-in) t (c .if2 .taken) (low .0) (low .1),
-      record { waits-hold = t .waits; asks-hold = asks-tried (a .live .now) (a .least .now) (a .n) (a .i) (p .0 .1) (p .0 .0) _ _ (inv .asks-hold) _ _ _ (low .0 .is-in) t },
+      first-lowest (a .live .now) (a .least .now) (a .n) (a .i) (p .0 .1) (p .0 .0) _ _ h _ _ _ (low .0 .is-in) t (c .if2 .taken) (low .0) (low .1),
+      record {
+        waits-hold = t .waits;
+        asks-hold = asks-tried (a .live .now) (a .least .now) (a .n) (a .i) (p .0 .1) (p .0 .0) _ _ h _ _ _ (low .0 .is-in) t;
+      },
     )
 
 without-requires : tie.Need-without-requires Inv-loop μ-loop
@@ -41,19 +44,22 @@ without-requires c κs = c .before .before .before .before .lowest .ensures .1
 
 loop-less : tie.Need-loop-less Inv-loop μ-loop
 loop-less c =
-    let asks = c .before .before .before .before .before .before .before .before .before .loop .asks in
-    rw (getD-set-same asks (c .before .before .before .before .before .before .before .before .before .before .args .i) (c .without .result) 0 (omega (arith, c .before .before .before .before .before .before .before .before .before .loop .inv .asks-hold .long, c .before .before .before .before .before .before .before .before .before .before .pre .0)))
+    let top = c .before .before .before .before .before .before .before .before .before in
+    let start = top .before in
+    rw (getD-set-same (top .loop .asks) (start .args .i) (c .without .result) 0 (omega (arith, top .loop .inv .asks-hold .long, start .pre .0)))
     (c .without .ensures .lower (c .before .before .before .before .before .lowest .ensures .0 .is-in))
 
 loop-again : tie.Need-loop-again Inv-loop μ-loop
 loop-again c =
-    let a = c .before .before .before .before .before .before .before .before .before .before .args in
-    let p = c .before .before .before .before .before .before .before .before .before .before .pre in
+    let top = c .before .before .before .before .before .before .before .before .before in
+    let a = top .before .args in
+    let p = top .before .pre in
+    let low = c .before .before .before .before .before .lowest .ensures .0 in
     let t = c .before .before .before .try-call .ensures in
     record {
       waits-hold = t .waits;
-      asks-hold = asks-without (a .live .now) (a .least .now) (a .n) (a .i) (p .0 .1) (p .0 .0) _ _ (c .before .before .before .before .before .before .before .before .before .loop .inv .asks-hold) _ _ _
-          (c .before .before .before .before .before .lowest .ensures .0 .is-in) t _ (c .before .before .if2 .left) (c .without .ensures);
+      asks-hold = asks-without (a .live .now) (a .least .now) (a .n) (a .i) (p .0 .1) (p .0 .0) _ _ (top .loop .inv .asks-hold) _ _ _ (low .is-in) t _
+          (c .before .before .if2 .left) (c .without .ensures);
     }
 
 returns-2 : tie.Need-returns-2 Inv-loop μ-loop

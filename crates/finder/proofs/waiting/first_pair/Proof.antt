@@ -3,7 +3,6 @@ use Prim.Native.Nat.{ℕ, _-_, _≤_, _<_}
 use native.Mathlib.Omega.{arith}
 use borrow.Author.Count.{below-more}
 use Rattle.finder.specs.Waiting.{Passes, Marks}
-use Rattle.finder.proofs.Tables.{below-of}
 use Rattle.finder.proofs.Asking.{first-found, first-last}
 use Rattle.finder.proofs.waiting.first_pair.Statement.{statement}
 use Rattle.finder.proofs.waiting.first_pair.Tie as tie
@@ -28,10 +27,9 @@ first-call-requires c κs =
 returns : tie.Need-returns Inv-loop μ-loop
 returns c =
     let a = c .before .before .before .before .before .before .args in
-    let r = c .before .first-call .ensures in (
-      first-found (a .live .now) (a .least .now) (a .n) _ (c .before .before .before .before .before .before .pre .0 .0) (c .before .before .before .before .before .loop .inv .1) _ (c .before .before .before .before .loop-test .taken) (below-of _ 32 (r .0 .within) (c .if1 .taken)) (r .0),
-      r .1,
-    )
+    let few = c .before .before .before .before .before .before .pre .0 .0 in
+    let r = c .before .first-call .ensures in
+    (first-found (a .live .now) (a .least .now) (a .n) _ few (c .before .before .before .before .before .loop .inv .1) _ (c .before .before .before .before .loop-test .taken) (c .if1 .taken) (r .0), r .1)
 
 loop-again : tie.Need-loop-again Inv-loop μ-loop
 loop-again c =

@@ -39,7 +39,8 @@ loop-again : tie.Need-loop-again Inv-loop μ-loop
 loop-again c =
     let a = c .before .before .before .before .before .before .before .args in
     let inv = c .before .before .before .before .before .loop .inv in
-    (inv .0, omega arith, passed-more (a .live .now) (a .least .now) (a .lot .0) (a .call .0) _ _ (inv .2) (rw (inv .0) at (sym (c .before .exceeds .ensures) ∙ c .if1 .left)))
+    let e = sym (c .before .exceeds .ensures) ∙ c .if1 .left in
+    (inv .0, omega arith, passed-more (a .live .now) (a .least .now) (a .lot .0) (a .call .0) _ _ (inv .2) (rw (inv .0) at e))
 
 returns-2 : tie.Need-returns-2 Inv-loop μ-loop
 returns-2 c = record { passed = c .before .loop .inv .2; hindered = λ h. absurd (omega arith); within = c .before .loop .inv .1 }

@@ -1,12 +1,12 @@
--- `finder::search::find_marked` meets its contract. What the search found is written, or nothing is (`orders-found`, `orders-none`).
+-- `finder::search::find_by_rooms` meets its contract. What the search found is written, or nothing is (`orders-found`, `orders-none`).
 use borrow.Author.Needs.{needs}
 use native.Mathlib.Omega.{arith}
 use Rattle.transport.specs.Finder.{find}
 use Rattle.finder.specs.Rooms.{roomed}
 use Rattle.finder.proofs.Turns.{size-few}
 use Rattle.finder.proofs.Writes.{counts-found, orders-found, orders-none}
-use Rattle.finder.proofs.search.find_marked.Statement.{statement}
-use Rattle.finder.proofs.search.find_marked.Tie as tie
+use Rattle.finder.proofs.search.find_by_rooms.Statement.{statement}
+use Rattle.finder.proofs.search.find_by_rooms.Tie as tie
 
 find-pairs-requires : tie.Need-find-pairs-requires
 find-pairs-requires c κs = let p = c .before .before .pre in (p .0, p .1, omega arith)
@@ -31,8 +31,8 @@ returns-2 c =
     orders-found (find (roomed (a .rooms .now) (a .n) (a .m))) _ _ _ (a .buffer .now) _ (c .before .before .before .before .before .before .found .given .1)
     (c .before .before .before .before .before .before .before .before .before .find-pairs .ensures) (c .before .before .write-order .ensures)
 
-pub find-marked-spec : {M : Type 1} → statement M
-find-marked-spec =
+pub find-by-rooms-spec : {M : Type 1} → statement M
+find-by-rooms-spec =
     tie.close
     (tie.spec
     (λ c. search needs)
