@@ -13,7 +13,7 @@ use lib.ListN.{length, getD, set, length-set}
 use lib.Seq.{getD-set-same, getD-set-other}
 use Rattle.specification.specs.Book.{bit}
 use Rattle.book.specs.Table.{entry}
-use Rattle.finder.specs.Rooms.{remains}
+use Rattle.finder.specs.Slacks.{remains}
 use Rattle.finder.specs.Words.{LowestIn, Without, IncludingIf, Calls, Lefts}
 use Rattle.finder.specs.Waiting.{Passes, First, FirstCall, Hindered, Asks, Tried, Asked}
 use Rattle.finder.proofs.Digits.{bit-none}
@@ -30,34 +30,34 @@ if-unset test word j after l r e = by-cases (ℕ-discrete l j)
     unset false b q = q
 
 -- the word has the first calls that remain to lot i, and no other
-pub record Begins (rooms : List ℕ) (i count word : ℕ) : Type 0 where
-  pub first : (j : ℕ) → j < count → bit word j ≡ remains rooms i j
+pub record Begins (slacks : List ℕ) (i count word : ℕ) : Type 0 where
+  pub first : (j : ℕ) → j < count → bit word j ≡ remains slacks i j
   pub none : (j : ℕ) → count ≤ j → bit word j ≡ false
 
-module _ (rooms : List ℕ) (i : ℕ) where
-  pub begins-none : Begins rooms i 0 0
+module _ (slacks : List ℕ) (i : ℕ) where
+  pub begins-none : Begins slacks i 0 0
   begins-none = record { first = λ j h. absurd (omega arith); none = λ j h. bit-none j }
 
-  pub begins-more : (j word after : ℕ) → Begins rooms i j word → IncludingIf (remains rooms i j) word j after → Begins rooms i (j + 1) after
+  pub begins-more : (j word after : ℕ) → Begins slacks i j word → IncludingIf (remains slacks i j) word j after → Begins slacks i (j + 1) after
   begins-more j word after h r = record {
     first = below-more _ _
         (λ l hl. r .others l (λ e. omega arith) ∙ h .first l hl)
-        (r .own ∙ ap (λ (b : Bool). remains rooms i j || b) (h .none j (omega arith)) ∙ or-false (remains rooms i j));
+        (r .own ∙ ap (λ (b : Bool). remains slacks i j || b) (h .none j (omega arith)) ∙ or-false (remains slacks i j));
     none = λ l hl. r .others l (λ e. omega arith) ∙ h .none l (omega arith);
   }
 
-  pub begins-all : (m word : ℕ) → Begins rooms i m word → ((j : ℕ) → m ≤ j → j < 32 → entry rooms j i ≡ 0) → Calls rooms i word
+  pub begins-all : (m word : ℕ) → Begins slacks i m word → ((j : ℕ) → m ≤ j → j < 32 → entry slacks j i ≡ 0) → Calls slacks i word
   begins-all m word h beyond j hj = by-cases (decLt j m)
       (h .first j)
-      (λ o. h .none j (omega arith) ∙ rw (eq-eqb (entry rooms j i) 0 (beyond j (omega arith) hj)))
+      (λ o. h .none j (omega arith) ∙ rw (eq-eqb (entry slacks j i) 0 (beyond j (omega arith) hj)))
 
 -- one lot more
-pub lefts-more : (rooms : List ℕ) (i word : ℕ) (words : List ℕ) → i < 32 → Lefts rooms i words → Calls rooms i word
-    → Lefts rooms (i + 1) (set words i word)
-lefts-more rooms i word words hi h r = record {
+pub lefts-more : (slacks : List ℕ) (i word : ℕ) (words : List ℕ) → i < 32 → Lefts slacks i words → Calls slacks i word
+    → Lefts slacks (i + 1) (set words i word)
+lefts-more slacks i word words hi h r = record {
   each = below-more _ _
-      (λ a ha. subst⁻¹ (Calls rooms a) (getD-set-other words i a word 0 (λ e. omega arith)) (h .each a ha))
-      (subst⁻¹ (Calls rooms i) (getD-set-same words i word 0 (omega (arith, h .long))) r);
+      (λ a ha. subst⁻¹ (Calls slacks a) (getD-set-other words i a word 0 (λ e. omega arith)) (h .each a ha))
+      (subst⁻¹ (Calls slacks i) (getD-set-same words i word 0 (omega (arith, h .long))) r);
   long = simp length-set (h .long);
 }
 

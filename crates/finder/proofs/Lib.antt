@@ -1,6 +1,6 @@
 -- Laws of the work arrays, which the functions' proofs cite.
 pub mod Tables
-pub mod Roomed
+pub mod BySlacks
 pub mod Digits
 pub mod Lowering
 pub mod Marks

@@ -19,11 +19,11 @@ use Rattle.finder.specs.Rows.{gapBy, gapAt, leastFrom, Tails, Apart, Beg
 use Rattle.finder.proofs.Tables.{below-of, T-of, F-of}
 use Rattle.finder.proofs.Digits.{bit-none}
 
-pub gap-by-none : (cost room : ℕ) → room ≡ 0 → 0 ≡ gapBy cost room
-gap-by-none cost room e = rw (eq-eqb room 0 e)
+pub gap-by-none : (cost slack : ℕ) → slack ≡ 0 → 0 ≡ gapBy cost slack
+gap-by-none cost slack e = rw (eq-eqb slack 0 e)
 
-pub gap-by-some : (cost room : ℕ) → (room ≡ 0 → ⊥) → cost + room ≡ gapBy cost room
-gap-by-some cost room h = rw (ne-eqb room 0 h)
+pub gap-by-some : (cost slack : ℕ) → (slack ≡ 0 → ⊥) → cost + slack ≡ gapBy cost slack
+gap-by-some cost slack h = rw (ne-eqb slack 0 h)
 
 -- a stop is at most 32
 pub stop-le : (word l : ℕ) → Stop word l → l ≤ 32
@@ -35,17 +35,17 @@ stop-past word a b l none le t h = ⊎-elim
     (λ q. by-cases (decLt l b) (λ lt. absurd (true≢false (sym (q .1) ∙ none l h lt))) (λ o. omega arith))
     (λ e. omega arith) t
 
-module _ (rooms : List ℕ) (word i : ℕ) where
+module _ (slacks : List ℕ) (word i : ℕ) where
   abbrev fromCall : ℕ → ℕ → Bool
   fromCall l j = bit word j && leb l j
 
   -- the calls from p on are p and those from the next in the word
   from-step : (p up k : ℕ) → p < 32 → bit word p ≡ true → p < up → ((l : ℕ) → p + 1 ≤ l → l < up → bit word l ≡ false)
-      → leastFrom rooms word i p k ≡ min (leastFrom rooms word i up k) (gapAt rooms i k p)
+      → leastFrom slacks word i p k ≡ min (leastFrom slacks word i up k) (gapAt slacks i k p)
   from-step p up k hp t lt none =
-      least-same 32 (fromCall p) (λ l. fromCall up l || eqb l p) (gapAt rooms i k) 2000001 (λ l hl.
+      least-same 32 (fromCall p) (λ l. fromCall up l || eqb l p) (gapAt slacks i k) 2000001 (λ l hl.
       T-ext (fromCall p l) (fromCall up l || eqb l p) (there l) (back l))
-      ∙ least-with 32 (fromCall up) (gapAt rooms i k) 2000001 p hp
+      ∙ least-with 32 (fromCall up) (gapAt slacks i k) 2000001 p hp
     where
       there : (l : ℕ) → T (fromCall p l) → T (fromCall up l || eqb l p)
       there l s = by-cases (ℕ-discrete l p)
@@ -65,13 +65,13 @@ module _ (rooms : List ℕ) (word i : ℕ) where
           (or-says (fromCall up l) (eqb l p) s)
 
   -- no call is from 32 on
-  from-none : (k : ℕ) → leastFrom rooms word i 32 k ≡ 2000001
-  from-none k = least-of-none (fromCall 32) (gapAt rooms i k) 2000001 32
+  from-none : (k : ℕ) → leastFrom slacks word i 32 k ≡ 2000001
+  from-none k = least-of-none (fromCall 32) (gapAt slacks i k) 2000001 32
       (λ l hl t. omega (arith, leb→le 32 l (and-says (bit word l) (leb 32 l) t .1)))
 
   -- from the lowest call in the word on are all
-  from-all : (up k : ℕ) → ((l : ℕ) → 0 ≤ l → l < up → bit word l ≡ false) → leastFrom rooms word i up k ≡ leastFrom rooms word i 0 k
-  from-all up k none = least-same 32 (fromCall up) (fromCall 0) (gapAt rooms i k) 2000001 (λ l hl.
+  from-all : (up k : ℕ) → ((l : ℕ) → 0 ≤ l → l < up → bit word l ≡ false) → leastFrom slacks word i up k ≡ leastFrom slacks word i 0 k
+  from-all up k none = least-same 32 (fromCall up) (fromCall 0) (gapAt slacks i k) 2000001 (λ l hl.
       T-ext (fromCall up l) (fromCall 0 l)
       (λ t. and-of (bit word l) (leb 0 l) (and-says (bit word l) (leb up l) t .0) (le→leb 0 l (omega arith)))
       (λ t. let on = and-says (bit word l) (leb 0 l) t .0 in
@@ -93,17 +93,17 @@ below-next word up calls p after b h w = record {
       (λ d. w .others l d ∙ h .none-above l (below-of p l le (λ e. d (sym e))));
 }
 
-module _ (rooms : List ℕ) (n word i : ℕ) (few : n ≤ 32) where
+module _ (slacks : List ℕ) (n word i : ℕ) (few : n ≤ 32) where
   -- from the last row alone
-  pub begun-last : (tails : List ℕ) → ((k : ℕ) → k < n → entry tails (33 * i + 32) k ≡ 2000001) → Begun rooms n word i 32 tails
+  pub begun-last : (tails : List ℕ) → ((k : ℕ) → k < n → entry tails (33 * i + 32) k ≡ 2000001) → Begun slacks n word i 32 tails
   begun-last tails h = record {
     stop = inr refl;
-    stand = λ l a t k hk. let e : l ≡ 32 = omega (arith, stop-le word l t) in rw e (h k hk ∙ sym (from-none rooms word i k));
+    stand = λ l a t k hk. let e : l ≡ 32 = omega (arith, stop-le word l t) in rw e (h k hk ∙ sym (from-none slacks word i k));
   }
 
   -- one row more
-  module _ (up : ℕ) (tails : List ℕ) (b : Begun rooms n word i up tails) (calls p : ℕ) (r : Below word up calls) (h : HighestIn calls p)
-      (after : List ℕ) (f : Filled (33 * i + p) (λ k. min (entry tails (33 * i + up) k) (gapAt rooms i k p)) n tails after) where
+  module _ (up : ℕ) (tails : List ℕ) (b : Begun slacks n word i up tails) (calls p : ℕ) (r : Below word up calls) (h : HighestIn calls p)
+      (after : List ℕ) (f : Filled (33 * i + p) (λ k. min (entry tails (33 * i + up) k) (gapAt slacks i k p)) n tails after) where
     lower : p < up
     lower = below-in word up calls p r (h .is-in)
 
@@ -113,15 +113,15 @@ module _ (rooms : List ℕ) (n word i : ℕ) (few : n ≤ 32) where
     none : (l : ℕ) → p + 1 ≤ l → l < up → bit word l ≡ false
     none l a lt = sym (r .lower l lt) ∙ h .none-above l (omega arith)
 
-    here : (k : ℕ) → k < n → entry after (33 * i + p) k ≡ leastFrom rooms word i p k
-    here k hk = f .passed k hk ∙ ap (λ (x : ℕ). min x (gapAt rooms i k p)) (b .stand up (omega arith) (b .stop) k hk)
-        ∙ sym (from-step rooms word i p up k (omega (arith, lower, stop-le word up (b .stop))) is-in lower none)
+    here : (k : ℕ) → k < n → entry after (33 * i + p) k ≡ leastFrom slacks word i p k
+    here k hk = f .passed k hk ∙ ap (λ (x : ℕ). min x (gapAt slacks i k p)) (b .stand up (omega arith) (b .stop) k hk)
+        ∙ sym (from-step slacks word i p up k (omega (arith, lower, stop-le word up (b .stop))) is-in lower none)
 
-    higher : (l : ℕ) → p < l → Stop word l → (k : ℕ) → k < n → entry after (33 * i + l) k ≡ leastFrom rooms word i l k
+    higher : (l : ℕ) → p < l → Stop word l → (k : ℕ) → k < n → entry after (33 * i + l) k ≡ leastFrom slacks word i l k
     higher l lt t k hk = f .others (33 * i + l) k (λ e. omega arith) (omega arith)
         ∙ b .stand l (stop-past word (p + 1) up l none (stop-le word up (b .stop)) t (omega arith)) t k hk
 
-    pub begun-next : Begun rooms n word i p after
+    pub begun-next : Begun slacks n word i p after
     begun-next = record {
       stop = inl (omega (arith, lower, stop-le word up (b .stop)), is-in);
       stand = λ l a t. by-cases (ℕ-discrete l p) (λ e. rw e here) (λ d. higher l (below-of p l a (λ q. d (sym q))) t);
@@ -135,13 +135,13 @@ module _ (rooms : List ℕ) (n word i : ℕ) (few : n ≤ 32) where
     }
 
   -- where no call is below the lowest row, all rows of the lot stand, and this one is its row of least gaps
-  pub rows-of : (top : ℕ) (tails tails′ least least′ : List ℕ) → Begun rooms n word i top tails′ → Below word top 0 → Apart i tails tails′
-      → Filled i (entry tails′ (33 * i + top)) n least least′ → RowsOf rooms n word i tails tails′ least least′
+  pub rows-of : (top : ℕ) (tails tails′ least least′ : List ℕ) → Begun slacks n word i top tails′ → Below word top 0 → Apart i tails tails′
+      → Filled i (entry tails′ (33 * i + top)) n least least′ → RowsOf slacks n word i tails tails′ least least′
   rows-of top tails tails′ least least′ b r a f = record {
     stand = λ l h t. b .stand l (stop-past word 0 top l none (stop-le word top (b .stop)) t h) t;
     apart = a;
     row = record {
-      passed = λ k hk. f .passed k hk ∙ b .stand top (omega arith) (b .stop) k hk ∙ from-all rooms word i top k none;
+      passed = λ k hk. f .passed k hk ∙ b .stand top (omega arith) (b .stop) k hk ∙ from-all slacks word i top k none;
       long = f .long;
       others = f .others;
     };
@@ -151,22 +151,22 @@ module _ (rooms : List ℕ) (n word i : ℕ) (few : n ≤ 32) where
       none l h lt = sym (r .lower l lt) ∙ bit-none l
 
 -- the rows of another lot stay
-pub tails-stay : (rooms : List ℕ) (n word a i : ℕ) (tails tails′ : List ℕ) → n ≤ 32 → (a ≡ i → ⊥) → Tails rooms n word a 0 tails
-    → Apart i tails tails′ → Tails rooms n word a 0 tails′
-tails-stay rooms n word a i tails tails′ few d h r l z t k hk = r .others (33 * a + l) k away (omega arith) ∙ h l z t k hk
+pub tails-stay : (slacks : List ℕ) (n word a i : ℕ) (tails tails′ : List ℕ) → n ≤ 32 → (a ≡ i → ⊥) → Tails slacks n word a 0 tails
+    → Apart i tails tails′ → Tails slacks n word a 0 tails′
+tails-stay slacks n word a i tails tails′ few d h r l z t k hk = r .others (33 * a + l) k away (omega arith) ∙ h l z t k hk
   where
     away : (33 * a + l < 33 * i) ⊎ (33 * i + 32 < 33 * a + l)
     away = by-cases (decLt a i) (λ q. inl (omega (arith, stop-le word l t))) (λ q. inr (omega (arith, below-of i a (omega arith) (λ e. d (sym e)))))
 
-module _ (rooms words : List ℕ) (n : ℕ) (few : n ≤ 32) (i : ℕ) (tails tails′ : List ℕ) where
-  pub all-rows-more : (least least′ : List ℕ) → AllRows rooms words n i tails least
-      → RowsOf rooms n (getD words i 0) i tails tails′ least least′ → AllRows rooms words n (i + 1) tails′ least′
+module _ (slacks words : List ℕ) (n : ℕ) (few : n ≤ 32) (i : ℕ) (tails tails′ : List ℕ) where
+  pub all-rows-more : (least least′ : List ℕ) → AllRows slacks words n i tails least
+      → RowsOf slacks n (getD words i 0) i tails tails′ least least′ → AllRows slacks words n (i + 1) tails′ least′
   all-rows-more least least′ r q = record {
     stand = λ a h. by-cases (ℕ-discrete a i)
-        (λ e. subst⁻¹ (λ (b : ℕ). Tails rooms n (getD words b 0) b 0 tails′) e (q .stand))
-        (λ d. tails-stay rooms n (getD words a 0) a i tails tails′ few d (r .stand a (below-of a i (omega arith) d)) (q .apart));
+        (λ e. subst⁻¹ (λ (b : ℕ). Tails slacks n (getD words b 0) b 0 tails′) e (q .stand))
+        (λ d. tails-stay slacks n (getD words a 0) a i tails tails′ few d (r .stand a (below-of a i (omega arith) d)) (q .apart));
     rows = λ a h k hk. by-cases (ℕ-discrete a i)
-        (λ e. subst⁻¹ (λ (b : ℕ). entry least′ b k ≡ leastFrom rooms (getD words b 0) b 0 k) e (q .row .passed k hk))
+        (λ e. subst⁻¹ (λ (b : ℕ). entry least′ b k ≡ leastFrom slacks (getD words b 0) b 0 k) e (q .row .passed k hk))
         (λ d. q .row .others a k d (omega arith) ∙ r .rows a (below-of a i (omega arith) d) k hk);
     tails-long = q .apart .long ∙ r .tails-long;
     least-long = q .row .long ∙ r .least-long;

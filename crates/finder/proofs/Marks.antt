@@ -12,19 +12,19 @@ use lib.ListN.{set, length-set}
 use lib.Seq.{getD-set-same, getD-set-other}
 use Rattle.transport.proofs.Laws.Tests.{T-true, T-ext, and-says, and-of}
 use Rattle.book.specs.Table.{entry}
-use Rattle.finder.specs.Rooms.{remains}
+use Rattle.finder.specs.Slacks.{remains}
 use Rattle.finder.specs.Waiting.{hinders, Passed, Passes, Hindered, Lowest, Waits, Tried}
 use Rattle.finder.proofs.Tables.{positive, below-of, T-of}
 
 -- the comparison with the greater of a least gap and a cost serves both
-pub exceeds-is : (least cost room most : ℕ) → least ≤ most → cost ≤ most → (most ≡ least) ⊎ (most ≡ cost)
-    → ltb most (cost + room) ≡ (not (eqb room 0) && ltb least (cost + room))
-exceeds-is least cost room most a b o = T-ext (ltb most (cost + room)) (not (eqb room 0) && ltb least (cost + room))
-    (λ t. let l = ltb→lt most (cost + room) t in and-of (not (eqb room 0)) (ltb least (cost + room))
-    (not-T (eqb room 0) (λ z. omega (arith, eqb→eq room 0 z))) (lt→ltb least (cost + room) (omega arith)))
-    (λ t. let (some, l) = and-says (not (eqb room 0)) (ltb least (cost + room)) t in lt→ltb most (cost + room)
-    (⊎-elim (λ e. omega (arith, ltb→lt least (cost + room) l))
-    (λ e. omega (arith, positive room (λ z. T-not (eqb room 0) some (rw z tt)))) o))
+pub exceeds-is : (least cost slack most : ℕ) → least ≤ most → cost ≤ most → (most ≡ least) ⊎ (most ≡ cost)
+    → ltb most (cost + slack) ≡ (not (eqb slack 0) && ltb least (cost + slack))
+exceeds-is least cost slack most a b o = T-ext (ltb most (cost + slack)) (not (eqb slack 0) && ltb least (cost + slack))
+    (λ t. let l = ltb→lt most (cost + slack) t in and-of (not (eqb slack 0)) (ltb least (cost + slack))
+    (not-T (eqb slack 0) (λ z. omega (arith, eqb→eq slack 0 z))) (lt→ltb least (cost + slack) (omega arith)))
+    (λ t. let (some, l) = and-says (not (eqb slack 0)) (ltb least (cost + slack)) t in lt→ltb most (cost + slack)
+    (⊎-elim (λ e. omega (arith, ltb→lt least (cost + slack) l))
+    (λ e. omega (arith, positive slack (λ z. T-not (eqb slack 0) some (rw z tt)))) o))
 
 -- what lot k says of (i, j)
 module _ (live least : List ℕ) (i j k : ℕ) where

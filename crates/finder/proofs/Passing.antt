@@ -20,50 +20,50 @@ use Rattle.transport.proofs.Finder.Free.{Takeable, next-is}
 use Rattle.transport.proofs.Finder.Gaps.{gap, leastGap, free-iff-least}
 use Rattle.specification.specs.Book.{costLimit, bit}
 use Rattle.book.specs.Table.{entry}
-use Rattle.finder.specs.Rooms.{remains, roomed, Rooms}
+use Rattle.finder.specs.Slacks.{remains, bySlacks, Slacks}
 use Rattle.finder.specs.Rows.{gapAt, leastFrom}
 use Rattle.finder.specs.Waiting.{hinders, Passes, First}
 use Rattle.finder.specs.Work.{Holding}
 use Rattle.finder.proofs.Tables.{T-of}
-use Rattle.finder.proofs.Roomed.{remains-says, remains-of, admits-is, costs-within}
+use Rattle.finder.proofs.BySlacks.{remains-says, remains-of, admits-is, costs-within}
 use Rattle.finder.proofs.Marks.{hinders-says, passes-says}
 
 -- the pair of a place
 abbrev pub placed : ℕ → Pair
 placed x = record { lot = x / 32; call = x % 32 }
 
-module _ (rooms : List ℕ) (n m : ℕ) (r : Rooms rooms n m) where
+module _ (slacks : List ℕ) (n m : ℕ) (r : Slacks slacks n m) where
   abbrev P : Problem
-  P = roomed rooms n m
+  P = bySlacks slacks n m
 
-  gap-is : (i k j : ℕ) → k < n → j < m → gap P costLimit i k j ≡ gapAt rooms i k j
-  gap-is i k j hk hj = rw (admits-is rooms n m k j hk hj) (by-cases (ℕ-discrete (entry rooms j k) 0)
-      (λ e. rw (eq-eqb (entry rooms j k) 0 e))
-      (λ d. rw (ne-eqb (entry rooms j k) 0 d) (omega (arith, r .capped (32 * j + k)))))
+  gap-is : (i k j : ℕ) → k < n → j < m → gap P costLimit i k j ≡ gapAt slacks i k j
+  gap-is i k j hk hj = rw (admits-is slacks n m k j hk hj) (by-cases (ℕ-discrete (entry slacks j k) 0)
+      (λ e. rw (eq-eqb (entry slacks j k) 0 e))
+      (λ d. rw (ne-eqb (entry slacks j k) 0 d) (omega (arith, r .capped (32 * j + k)))))
 
-  module _ (live tails least waits asks lefts : List ℕ) (h : Holding rooms n live tails least waits asks lefts) where
-    -- what remains has room in the problem
+  module _ (live tails least waits asks lefts : List ℕ) (h : Holding slacks n live tails least waits asks lefts) where
+    -- what remains has slack in the problem
     call-in : (i j : ℕ) → i < n → j < 32 → T (remains live i j) → j < m
     call-in i j hi hj t = by-cases (decLt j m) (λ l. l)
         (λ o. absurd (omega (arith, remains-says live i j t, h .live-holds i j hi hj t, r .beyond i j hi (omega arith) hj)))
 
     eligible : Among P (remains live) (P .admits)
-    eligible i j (hi, hj, t) = rw (admits-is rooms n m i j hi hj)
-        (remains-of rooms i j (λ e. omega (arith, remains-says live i j t, h .live-holds i j hi (omega (arith, r .calls-few)) t)))
+    eligible i j (hi, hj, t) = rw (admits-is slacks n m i j hi hj)
+        (remains-of slacks i j (λ e. omega (arith, remains-says live i j t, h .live-holds i j hi (omega (arith, r .calls-few)) t)))
 
     -- the least gaps are the problem's
     least-is : (i k : ℕ) → i < n → k < n → entry least i k ≡ leastGap P costLimit (remains live) i k
     least-is i k hi hk = h .rows-hold .rows i hi k hk ∙ omega (
       arith,
-      le-least (remains live i) (gap P costLimit i k) 2000001 m (leastFrom rooms word i 0 k)
-          (least-le-top from (gapAt rooms i k) 2000001 32)
+      le-least (remains live i) (gap P costLimit i k) 2000001 m (leastFrom slacks word i 0 k)
+          (least-le-top from (gapAt slacks i k) 2000001 32)
           (λ j hj t. omega (
             arith,
             gap-is i k j hk hj,
-            least-le from (gapAt rooms i k) 2000001 32 j (omega (arith, r .calls-few)) (and-of (bit word j) (leb 0 j)
+            least-le from (gapAt slacks i k) 2000001 32 j (omega (arith, r .calls-few)) (and-of (bit word j) (leb 0 j)
                 (T-of (h .lefts-hold .each i hi j (omega (arith, r .calls-few)) ∙ T-true (remains live i j) t)) (le→leb 0 j (omega arith))),
           )),
-      le-least from (gapAt rooms i k) 2000001 32 (leastGap P costLimit (remains live) i k)
+      le-least from (gapAt slacks i k) 2000001 32 (leastGap P costLimit (remains live) i k)
           (least-le-top (remains live i) (gap P costLimit i k) 2000001 m)
           (λ j hj t. let on = subst T (h .lefts-hold .each i hi j hj) (and-says (bit word j) (leb 0 j) t .0) in
           let hm = call-in i j hi hj on in
@@ -81,14 +81,14 @@ module _ (rooms : List ℕ) (n m : ℕ) (r : Rooms rooms n m) where
         → gap P costLimit i k j ≡ 1000001 - entry live j i + entry live j k
     gap-live i k j hi hk hj t on =
         let hj′ : j < 32 = omega (arith, r .calls-few) in
-        gap-is i k j hk hj ∙ rw (ne-eqb (entry rooms j k) 0 (λ e. omega (arith, remains-says live k j on, h .live-holds k j hk hj′ on)))
+        gap-is i k j hk hj ∙ rw (ne-eqb (entry slacks j k) 0 (λ e. omega (arith, remains-says live k j on, h .live-holds k j hk hj′ on)))
         (omega (arith, h .live-holds i j hi hj′ t, h .live-holds k j hk hj′ on))
 
     -- a pair passes exactly where it can be taken
     takeable-of : (i j : ℕ) → i < n → j < 32 → Passes live least n i j → Takeable P (remains live) i j
     takeable-of i j hi hj p = record {
       remains = (hi, hm, p .on);
-      unhindered = free-iff-least P costLimit (costs-within rooms n m) (remains live) eligible i j (hi, hm, p .on) .1
+      unhindered = free-iff-least P costLimit (costs-within slacks n m) (remains live) eligible i j (hi, hm, p .on) .1
           (λ k (hk, hj′, on). omega (
             arith,
             passes-says live least i j k (p .passed k (omega arith) hk) on,
@@ -108,7 +108,7 @@ module _ (rooms : List ℕ) (n m : ℕ) (r : Rooms rooms n m) where
           let (hi, hj, there) = t .remains in
           omega (
             arith,
-            free-iff-least P costLimit (costs-within rooms n m) (remains live) eligible i j (t .remains) .0 (t .unhindered) k (hk, hj, on),
+            free-iff-least P costLimit (costs-within slacks n m) (remains live) eligible i j (t .remains) .0 (t .unhindered) k (hk, hj, on),
             gap-live i k j hi hk hj there on,
             least-is i k hi hk,
           ));

@@ -16,31 +16,31 @@ use Rattle.transport.proofs.Laws.Tests.{T-true, T-false, and-says, and-of}
 use Rattle.transport.proofs.Laws.Searches.{least-same, le-least, least-le, least-le-top}
 use Rattle.specification.specs.Book.{bit}
 use Rattle.book.specs.Table.{entry}
-use Rattle.finder.specs.Rooms.{remains}
+use Rattle.finder.specs.Slacks.{remains}
 use Rattle.finder.specs.Words.{Above, Without, IncludingIf, Calls, Lefts}
 use Rattle.finder.specs.Rows.{gapAt, leastFrom, Tails, Begun, RowsOf, AllRows}
 use Rattle.finder.specs.Waiting.{hinders, Hindered, Waits, Asks, Asked}
 use Rattle.finder.specs.Work.{Holding}
 use Rattle.finder.proofs.Tables.{T-of}
-use Rattle.finder.proofs.Roomed.{remains-says, capped-set}
+use Rattle.finder.proofs.BySlacks.{remains-says, capped-set}
 use Rattle.finder.proofs.Lowering.{tails-stay}
 use Rattle.finder.proofs.Marks.{hinders-says, hinders-of, passes-says}
 use Rattle.finder.proofs.Asking.{if-unset}
 
 -- call j leaves the word of lot i
-module _ (rooms : List ℕ) (n word i j after : ℕ) (w : Without word j after) where
+module _ (slacks : List ℕ) (n word i j after : ℕ) (w : Without word j after) where
   fewer-calls : (l : ℕ) → bit after l ≡ true → bit word l ≡ true
   fewer-calls l e = by-cases (ℕ-discrete l j)
       (λ z. absurd (true≢false (sym e ∙ subst⁻¹ (λ (b : ℕ). bit after b ≡ false) z (w .out))))
       (λ d. sym (w .others l d) ∙ e)
 
   -- the calls above it are as they were
-  from-above : (l k : ℕ) → j < l → leastFrom rooms word i l k ≡ leastFrom rooms after i l k
-  from-above l k lt = least-same 32 _ _ (gapAt rooms i k) 2000001 (λ h hh. by-cases (ℕ-discrete h j)
+  from-above : (l k : ℕ) → j < l → leastFrom slacks word i l k ≡ leastFrom slacks after i l k
+  from-above l k lt = least-same 32 _ _ (gapAt slacks i k) 2000001 (λ h hh. by-cases (ℕ-discrete h j)
       (λ e. rw (lt-leb l h (omega arith)) (and-false (bit word h) ∙ sym (and-false (bit after h))))
       (λ d. ap (λ (b : Bool). b && leb l h) (sym (w .others h d))))
 
-  pub begun-then : (up : ℕ) (tails : List ℕ) → Tails rooms n word i 0 tails → Above after j up → Begun rooms n after i up tails
+  pub begun-then : (up : ℕ) (tails : List ℕ) → Tails slacks n word i 0 tails → Above after j up → Begun slacks n after i up tails
   begun-then up tails h r = record {
     stop = r .stop;
     stand = λ l a t k hk. h l (omega arith) (⊎-elim (λ q. inl (q .0, fewer-calls l (q .1))) inr t) k hk
@@ -48,20 +48,20 @@ module _ (rooms : List ℕ) (n word i j after : ℕ) (w : Without word j after) 
   }
 
   -- least gaps only grow
-  least-grows : (k : ℕ) → leastFrom rooms word i 0 k ≤ leastFrom rooms after i 0 k
-  least-grows k = le-least (λ l. bit after l && leb 0 l) (gapAt rooms i k) 2000001 32 (leastFrom rooms word i 0 k)
-      (least-le-top (λ l. bit word l && leb 0 l) (gapAt rooms i k) 2000001 32)
+  least-grows : (k : ℕ) → leastFrom slacks word i 0 k ≤ leastFrom slacks after i 0 k
+  least-grows k = le-least (λ l. bit after l && leb 0 l) (gapAt slacks i k) 2000001 32 (leastFrom slacks word i 0 k)
+      (least-le-top (λ l. bit word l && leb 0 l) (gapAt slacks i k) 2000001 32)
       (λ l hl t. let both = and-says (bit after l) (leb 0 l) t in
-      least-le (λ a. bit word a && leb 0 a) (gapAt rooms i k) 2000001 32 l hl
+      least-le (λ a. bit word a && leb 0 a) (gapAt slacks i k) 2000001 32 l hl
       (and-of (bit word l) (leb 0 l) (T-of (fewer-calls l (T-true (bit after l) (both .0)))) (both .1)))
 
 -- the pair at place x is taken
-module _ (rooms : List ℕ) (n : ℕ) (few : n ≤ 32) (live tails least waits asks lefts : List ℕ)
-    (h : Holding rooms n live tails least waits asks lefts) (x : ℕ) (hx : x < 1024) (hi : x / 32 < n) where
+module _ (slacks : List ℕ) (n : ℕ) (few : n ≤ 32) (live tails least waits asks lefts : List ℕ)
+    (h : Holding slacks n live tails least waits asks lefts) (x : ℕ) (hx : x < 1024) (hi : x / 32 < n) where
   abbrev gone : List ℕ
   gone = set live (32 * (x % 32) + x / 32) 0
 
-  -- its room alone goes
+  -- its slack alone goes
   cell-other : (a l : ℕ) → a < 32 → ((a ≡ x / 32) × (l ≡ x % 32) → ⊥) → entry gone l a ≡ entry live l a
   cell-other a l ha d = getD-set-other live (32 * (x % 32) + x / 32) (32 * l + a) 0 0 (λ e. d (omega arith, omega arith))
 
@@ -77,7 +77,7 @@ module _ (rooms : List ℕ) (n : ℕ) (few : n ≤ 32) (live tails least waits a
 
   -- its call leaves the word of its lot, whose rows are worked out
   module _ (word : ℕ) (w : Without (getD lefts (x / 32) 0) (x % 32) word) (tails′ least′ : List ℕ)
-      (q : RowsOf rooms n word (x / 32) tails tails′ least least′) where
+      (q : RowsOf slacks n word (x / 32) tails tails′ least least′) where
     at-it : getD (set lefts (x / 32) word) (x / 32) 0 ≡ word
     at-it = getD-set-same lefts (x / 32) word 0 (omega (arith, h .lefts-hold .long))
 
@@ -96,18 +96,18 @@ module _ (rooms : List ℕ) (n : ℕ) (few : n ≤ 32) (live tails least waits a
       long = simp length-set (h .lefts-hold .long);
     }
 
-    rows-then : AllRows rooms (set lefts (x / 32) word) n n tails′ least′
+    rows-then : AllRows slacks (set lefts (x / 32) word) n n tails′ least′
     rows-then = record {
       stand = λ a ha. by-cases (ℕ-discrete a (x / 32))
-          (λ e. subst⁻¹ (λ (b : ℕ). Tails rooms n (getD (set lefts (x / 32) word) b 0) b 0 tails′) e
-          (subst⁻¹ (λ (v : ℕ). Tails rooms n v (x / 32) 0 tails′) at-it (q .stand)))
-          (λ d. subst⁻¹ (λ (v : ℕ). Tails rooms n v a 0 tails′) (getD-set-other lefts (x / 32) a word 0 d)
-          (tails-stay rooms n (getD lefts a 0) a (x / 32) tails tails′ few d (h .rows-hold .stand a ha) (q .apart)));
+          (λ e. subst⁻¹ (λ (b : ℕ). Tails slacks n (getD (set lefts (x / 32) word) b 0) b 0 tails′) e
+          (subst⁻¹ (λ (v : ℕ). Tails slacks n v (x / 32) 0 tails′) at-it (q .stand)))
+          (λ d. subst⁻¹ (λ (v : ℕ). Tails slacks n v a 0 tails′) (getD-set-other lefts (x / 32) a word 0 d)
+          (tails-stay slacks n (getD lefts a 0) a (x / 32) tails tails′ few d (h .rows-hold .stand a ha) (q .apart)));
       rows = λ a ha k hk. by-cases (ℕ-discrete a (x / 32))
-          (λ e. subst⁻¹ (λ (b : ℕ). entry least′ b k ≡ leastFrom rooms (getD (set lefts (x / 32) word) b 0) b 0 k) e
-          (q .row .passed k hk ∙ ap (λ (v : ℕ). leastFrom rooms v (x / 32) 0 k) (sym at-it)))
+          (λ e. subst⁻¹ (λ (b : ℕ). entry least′ b k ≡ leastFrom slacks (getD (set lefts (x / 32) word) b 0) b 0 k) e
+          (q .row .passed k hk ∙ ap (λ (v : ℕ). leastFrom slacks v (x / 32) 0 k) (sym at-it)))
           (λ d. q .row .others a k d (omega arith) ∙ h .rows-hold .rows a ha k hk
-          ∙ ap (λ (v : ℕ). leastFrom rooms v a 0 k) (sym (getD-set-other lefts (x / 32) a word 0 d)));
+          ∙ ap (λ (v : ℕ). leastFrom slacks v a 0 k) (sym (getD-set-other lefts (x / 32) a word 0 d)));
       tails-long = q .apart .long ∙ h .rows-hold .tails-long;
       least-long = q .row .long ∙ h .rows-hold .least-long;
     }
@@ -118,7 +118,7 @@ module _ (rooms : List ℕ) (n : ℕ) (few : n ≤ 32) (live tails least waits a
           arith,
           h .rows-hold .rows (x / 32) hi k hk,
           q .row .passed k hk,
-          least-grows rooms n (getD lefts (x / 32) 0) (x / 32) (x % 32) word w k,
+          least-grows slacks n (getD lefts (x / 32) 0) (x / 32) (x % 32) word w k,
         )))
         (λ d. omega (arith, q .row .others a k d (omega arith)))
 
@@ -169,7 +169,7 @@ module _ (rooms : List ℕ) (n : ℕ) (few : n ≤ 32) (live tails least waits a
 
     -- all of it
     pub holding-then : (asks′ : List ℕ) → Asked waits n (x / 32) (x % 32) asks asks′ → getD asks′ (x / 32) 0 ≡ word
-        → Holding rooms n gone tails′ least′ waits asks′ (set lefts (x / 32) word)
+        → Holding slacks n gone tails′ least′ waits asks′ (set lefts (x / 32) word)
     holding-then asks′ u own = record {
       live-holds = λ a l ha hl t. stays a l ha t ∙ h .live-holds a l ha hl (fewer a l ha t);
       capped = capped-set live _ 0 (h .capped) (omega arith) (omega (arith, h .live-long));

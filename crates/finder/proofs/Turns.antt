@@ -1,5 +1,5 @@
 -- The finder's turns: from the eligible pairs, by one pair taken at a time, to its answer. The invariant is transport's `Loop` at the pairs
--- that have room, beside the bytes of what is taken.
+-- that have slack, beside the bytes of what is taken.
 use mathlib.Core.Path.{_≡_, refl, sym, _∙_, ap, subst, subst⁻¹}
 use mathlib.Core.Logic.{by-cases}
 use mathlib.Core.Bool.{and-true, and-false, not, true≢false}
@@ -21,12 +21,12 @@ use Rattle.transport.proofs.Laws.Sets.{count-le}
 use Rattle.transport.proofs.Finder.Loop.{Loop, loop-start, loop-take, loop-stop, loop-done, loop-same}
 use Rattle.specification.specs.OrderFile.{pairBytes}
 use Rattle.book.specs.Table.{entry}
-use Rattle.finder.specs.Rooms.{remains, roomed, Rooms}
+use Rattle.finder.specs.Slacks.{remains, bySlacks, Slacks}
 use Rattle.finder.specs.Words.{Lefts}
 use Rattle.finder.specs.Rows.{Ends, AllRows}
 use Rattle.finder.specs.Work.{Holding, Finds}
 use Rattle.finder.specs.declared.inner.Search.the-variants.{Found, Nothing}
-use Rattle.finder.proofs.Roomed.{admits-is}
+use Rattle.finder.proofs.BySlacks.{admits-is}
 use Rattle.finder.proofs.Passing.{placed}
 
 -- two bytes more
@@ -44,10 +44,10 @@ unfolding pairBytes
 pairBytes-more [] p = refl
 pairBytes-more (q ∷ S) p = ap (λ (l : List ℕ). q .lot ∷ q .call ∷ l) (pairBytes-more S p)
 
--- a room that goes takes its pair out
-room-gone : (live : List ℕ) (x : ℕ) → x < 1024 → length live ≡ 1024 → (i j : ℕ) → i < 32
+-- a slack that goes takes its pair out
+slack-gone : (live : List ℕ) (x : ℕ) → x < 1024 → length live ≡ 1024 → (i j : ℕ) → i < 32
     → without (remains live) (placed x) i j ≡ remains (set live (32 * (x % 32) + x / 32) 0) i j
-room-gone live x hx long i j hi = by-cases (ℕ-discrete (32 * j + i) (32 * (x % 32) + x / 32))
+slack-gone live x hx long i j hi = by-cases (ℕ-discrete (32 * j + i) (32 * (x % 32) + x / 32))
     (λ e. rw (T-true (same i j (placed x)) (same-of-eq i j (placed x) (omega arith) (omega arith)))
     (and-false (remains live i j) ∙ sym (ap (λ (v : ℕ). not (eqb v 0))
     (ap (λ (y : ℕ). getD (set live (32 * (x % 32) + x / 32) 0) y 0) e ∙ getD-set-same live (32 * (x % 32) + x / 32) 0 0 (omega arith)))))
@@ -68,16 +68,16 @@ pub record Going (P : Problem) (live pairs : List ℕ) (count total : ℕ) : Typ
 pub ends-first : (n : ℕ) → n ≤ 32 → Ends n (replicate 33792 2000001)
 ends-first n h i hi k hk = getD-replicate 33792 (32 * (33 * i + 32) + k) 2000001 0 (omega arith)
 
-module _ (rooms : List ℕ) (n m : ℕ) (r : Rooms rooms n m) where
+module _ (slacks : List ℕ) (n m : ℕ) (r : Slacks slacks n m) where
   abbrev P : Problem
-  P = roomed rooms n m
+  P = bySlacks slacks n m
 
   pub size-few : size P ≤ 1024
   size-few = omega (arith, count-le P (P .admits), mul-le-mul (r .lots-few) (r .calls-few))
 
   -- at first each pair waits for lot 0, and each call that is left to a lot is to be asked for
-  pub holding-first : (tails least lefts : List ℕ) → AllRows rooms lefts n n tails least → Lefts rooms n lefts
-      → Holding rooms n rooms tails least (replicate 1024 0) lefts lefts
+  pub holding-first : (tails least lefts : List ℕ) → AllRows slacks lefts n n tails least → Lefts slacks n lefts
+      → Holding slacks n slacks tails least (replicate 1024 0) lefts lefts
   holding-first tails least lefts q left = record {
     live-holds = λ i j hi hj t. refl;
     capped = r .capped;
@@ -90,7 +90,7 @@ module _ (rooms : List ℕ) (n m : ℕ) (r : Rooms rooms n m) where
         long = length-replicate {A = ℕ} 1024 0;
       };
       asks-hold = record {
-        each = λ i j hi hj t e. absurd (true≢false (sym (left .each i hi j hj ∙ T-true (remains rooms i j) t) ∙ e));
+        each = λ i j hi hj t e. absurd (true≢false (sym (left .each i hi j hj ∙ T-true (remains slacks i j) t) ∙ e));
         long = left .long;
       };
     };
@@ -100,12 +100,12 @@ module _ (rooms : List ℕ) (n m : ℕ) (r : Rooms rooms n m) where
       zero-at : (i j : ℕ) → i < n → j < 32 → entry (replicate 1024 0) j i ≡ 0
       zero-at i j hi hj = getD-replicate 1024 (32 * j + i) 0 0 (omega (arith, r .lots-few))
 
-  pub going-start : (pairs : List ℕ) (total : ℕ) → total ≡ size P → Going P rooms pairs 0 total
+  pub going-start : (pairs : List ℕ) (total : ℕ) → total ≡ size P → Going P slacks pairs 0 total
   unfolding pairBytes
   going-start pairs total e = record {
     taken = [];
     left = size P;
-    loop = loop-same P [] (P .admits) (remains rooms) (size P) (admits-is rooms n m) (loop-start P);
+    loop = loop-same P [] (P .admits) (remains slacks) (size P) (admits-is slacks n m) (loop-start P);
     bytes = refl;
     counted = refl;
     whole = omega arith;
@@ -136,7 +136,7 @@ module _ (rooms : List ℕ) (n m : ℕ) (r : Rooms rooms n m) where
       left = g .left - 1;
       loop = subst⁻¹ (λ (l : List ℕ). Loop P (g .taken ++ (placed x ∷ [])) (remains l) (g .left - 1)) q
           (loop-same P (g .taken ++ (placed x ∷ [])) (without (remains live) (placed x)) (remains (set live (32 * (x % 32) + x / 32) 0)) (g .left - 1)
-          (λ i j hi hj. room-gone live x hx long i j (omega (arith, r .lots-few)))
+          (λ i j hi hj. slack-gone live x hx long i j (omega (arith, r .lots-few)))
           (loop-take P (g .taken) (remains live) (g .left - 1) (more-left h) (placed x) e));
       bytes = w ∙ ap (λ (l : List ℕ). l ++ (x / 32 ∷ x % 32 ∷ [])) (g .bytes) ∙ sym (pairBytes-more (g .taken) (placed x));
       counted = omega (arith, length-append (g .taken) (placed x ∷ []), g .counted);

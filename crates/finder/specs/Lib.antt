@@ -1,6 +1,6 @@
--- The problem that a table of rooms states, and what the finder's work arrays hold.
+-- The problem that a table of slacks states, and what the finder's work arrays hold.
 pub mod Table
-pub mod Rooms
+pub mod Slacks
 pub mod Words
 pub mod Rows
 pub mod Waiting

@@ -13,21 +13,21 @@ use Rattle.book.specs.Table.{entry}
 use Rattle.finder.specs.Table.{Filled}
 use Rattle.finder.specs.Words.{Stop}
 
--- the gap of a cost over a lot by its room
+-- the gap of a cost over a lot by its slack
 abbrev pub gapBy : ℕ → ℕ → ℕ
-gapBy cost room = cond (eqb room 0) 0 (cost + room)
+gapBy cost slack = cond (eqb slack 0) 0 (cost + slack)
 
 -- the gap of lot i over lot k at call j
 abbrev pub gapAt : List ℕ → ℕ → ℕ → ℕ → ℕ
-gapAt rooms i k j = gapBy (1000001 - entry rooms j i) (entry rooms j k)
+gapAt slacks i k j = gapBy (1000001 - entry slacks j i) (entry slacks j k)
 
 -- the least of these at the calls of the word from l on
 abbrev pub leastFrom : List ℕ → ℕ → ℕ → ℕ → ℕ → ℕ
-leastFrom rooms word i l k = least 32 (λ j. bit word j && leb l j) (gapAt rooms i k) 2000001
+leastFrom slacks word i l k = least 32 (λ j. bit word j && leb l j) (gapAt slacks i k) 2000001
 
 -- the rows of lot i for the calls of the word from `above` on, and for 32, hold its least gaps over n lots
 abbrev pub Tails : List ℕ → ℕ → ℕ → ℕ → ℕ → List ℕ → Type 0
-Tails rooms n word i above tails = (l : ℕ) → above ≤ l → Stop word l → (k : ℕ) → k < n → entry tails (33 * i + l) k ≡ leastFrom rooms word i l k
+Tails slacks n word i above tails = (l : ℕ) → above ≤ l → Stop word l → (k : ℕ) → k < n → entry tails (33 * i + l) k ≡ leastFrom slacks word i l k
 
 -- the last row of each lot holds the top
 abbrev pub Ends : ℕ → List ℕ → Type 0
@@ -39,19 +39,19 @@ pub record Apart (i : ℕ) (before after : List ℕ) : Type 0 where
   pub long : length after ≡ length before
 
 -- the rows of lot i from `up` on, which is one of them, stand
-pub record Begun (rooms : List ℕ) (n word i up : ℕ) (tails : List ℕ) : Type 0 where
+pub record Begun (slacks : List ℕ) (n word i up : ℕ) (tails : List ℕ) : Type 0 where
   pub stop : Stop word up
-  pub stand : Tails rooms n word i up tails
+  pub stand : Tails slacks n word i up tails
 
 -- the rows of lot i, and its row of least gaps, were worked out
-pub record RowsOf (rooms : List ℕ) (n word i : ℕ) (tails tails′ least least′ : List ℕ) : Type 0 where
-  pub stand : Tails rooms n word i 0 tails′
+pub record RowsOf (slacks : List ℕ) (n word i : ℕ) (tails tails′ least least′ : List ℕ) : Type 0 where
+  pub stand : Tails slacks n word i 0 tails′
   pub apart : Apart i tails tails′
-  pub row : Filled i (leastFrom rooms word i 0) n least least′
+  pub row : Filled i (leastFrom slacks word i 0) n least least′
 
 -- the rows of the first lots, each by its word
-pub record AllRows (rooms words : List ℕ) (n count : ℕ) (tails least : List ℕ) : Type 0 where
-  pub stand : (i : ℕ) → i < count → Tails rooms n (getD words i 0) i 0 tails
-  pub rows : (i : ℕ) → i < count → (k : ℕ) → k < n → entry least i k ≡ leastFrom rooms (getD words i 0) i 0 k
+pub record AllRows (slacks words : List ℕ) (n count : ℕ) (tails least : List ℕ) : Type 0 where
+  pub stand : (i : ℕ) → i < count → Tails slacks n (getD words i 0) i 0 tails
+  pub rows : (i : ℕ) → i < count → (k : ℕ) → k < n → entry least i k ≡ leastFrom slacks (getD words i 0) i 0 k
   pub tails-long : length tails ≡ 33792
   pub least-long : length least ≡ 1024

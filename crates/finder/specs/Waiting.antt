@@ -1,4 +1,4 @@
--- The pair to take next, by the rooms of the pairs that remain and the least gaps. What the finder's marks say: the lots that let a pair pass,
+-- The pair to take next, by the slacks of the pairs that remain and the least gaps. What the finder's marks say: the lots that let a pair pass,
 -- the lot that hinders it, and the calls that each lot is to be asked for.
 use mathlib.Core.Path.{_≡_}
 use mathlib.Core.Bool.{Bool, true, false, _&&_}
@@ -8,7 +8,7 @@ use lib.Dec.{T, eqb, ltb}
 use lib.ListN.{length, getD}
 use Rattle.specification.specs.Book.{bit}
 use Rattle.book.specs.Table.{entry}
-use Rattle.finder.specs.Rooms.{remains}
+use Rattle.finder.specs.Slacks.{remains}
 use Rattle.finder.specs.Words.{IncludingIf}
 
 -- lot k hinders (i, j): its pair with call j remains, and the gap over it there is not the least

@@ -6,7 +6,7 @@ use mathlib.Core.List.{List}
 use Prim.Native.Nat.{ℕ, _≤_, _<_}
 use lib.ListN.{length, getD}
 use Rattle.specification.specs.Book.{bit}
-use Rattle.finder.specs.Rooms.{remains}
+use Rattle.finder.specs.Slacks.{remains}
 
 -- r is the lowest call in the word
 pub record LowestIn (word r : ℕ) : Type 0 where
@@ -43,11 +43,11 @@ pub record IncludingIf (test : Bool) (word j after : ℕ) : Type 0 where
   pub own : bit after j ≡ (test || bit word j)
   pub others : (l : ℕ) → (l ≡ j → ⊥) → bit after l ≡ bit word l
 
--- the word has the calls at which lot i has room
+-- the word has the calls at which lot i has slack
 abbrev pub Calls : List ℕ → ℕ → ℕ → Type 0
-Calls rooms i word = (j : ℕ) → j < 32 → bit word j ≡ remains rooms i j
+Calls slacks i word = (j : ℕ) → j < 32 → bit word j ≡ remains slacks i j
 
 -- so has the word of each of the first lots
-pub record Lefts (rooms : List ℕ) (n : ℕ) (words : List ℕ) : Type 0 where
-  pub each : (i : ℕ) → i < n → Calls rooms i (getD words i 0)
+pub record Lefts (slacks : List ℕ) (n : ℕ) (words : List ℕ) : Type 0 where
+  pub each : (i : ℕ) → i < n → Calls slacks i (getD words i 0)
   pub long : length words ≡ 32

@@ -8,23 +8,23 @@ use lib.ListN.{length, take}
 use Rattle.transport.specs.Greedy.{Pair}
 use Rattle.specification.specs.OrderFile.{pairBytes}
 use Rattle.book.specs.Table.{entry}
-use Rattle.finder.specs.Rooms.{remains, Capped}
+use Rattle.finder.specs.Slacks.{remains, Capped}
 use Rattle.finder.specs.Words.{Lefts}
 use Rattle.finder.specs.Rows.{AllRows}
 use Rattle.finder.specs.Waiting.{Marks}
 use Rattle.finder.specs.declared.inner.Search.{Search}
 use Rattle.finder.specs.declared.inner.Search.the-variants.{Found, Nothing}
 
--- each pair that remains has its room
+-- each pair that remains has its slack
 abbrev pub Live : List ℕ → ℕ → List ℕ → Type 0
-Live rooms n live = (i j : ℕ) → i < n → j < 32 → T (remains live i j) → entry live j i ≡ entry rooms j i
+Live slacks n live = (i j : ℕ) → i < n → j < 32 → T (remains live i j) → entry live j i ≡ entry slacks j i
 
--- the rooms of the pairs that remain, the least gaps, the marks, and the words of calls
-pub record Holding (rooms : List ℕ) (n : ℕ) (live tails least waits asks lefts : List ℕ) : Type 0 where
-  pub live-holds : Live rooms n live
+-- the slacks of the pairs that remain, the least gaps, the marks, and the words of calls
+pub record Holding (slacks : List ℕ) (n : ℕ) (live tails least waits asks lefts : List ℕ) : Type 0 where
+  pub live-holds : Live slacks n live
   pub capped : Capped live
   pub live-long : length live ≡ 1024
-  pub rows-hold : AllRows rooms lefts n n tails least
+  pub rows-hold : AllRows slacks lefts n n tails least
   pub marks-hold : Marks live least n waits asks
   pub lefts-hold : Lefts live n lefts
 

@@ -1,6 +1,6 @@
 // Finding an order of a problem that a book's bytes and any table of offsets state, for the other crates.
-use super::rooms::fill_rooms;
-use super::search::find_by_rooms;
+use super::search::find_by_slacks;
+use super::slacks::fill_slacks;
 ghost use Prim.Native.Nat.{_+_, _*_, _≤_};
 ghost use lib.ListN.{length};
 ghost use Rattle.transport.specs.Finder.{size, find};
@@ -20,7 +20,7 @@ pub fn find_by(book: &[u8], offsets: &[u16; 1024], n: usize, m: usize, buffer: &
     requires { ⌜ 7 + 2 * size (problemBy (now book) (now offsets) n m) ≤ length (now buffer) ⌝ }
     ensures { λ r. ⌜ Orders (find (problemBy (now (book .entry)) (now (offsets .entry)) n m)) r (now (buffer .entry)) (now (buffer .exit)) ⌝ }
 {
-    let mut rooms: [u32; 1024] = [0; 1024];
-    let total = fill_rooms(book, offsets, n, m, &mut rooms);
-    find_by_rooms(&rooms, n, m, total, buffer)
+    let mut slacks: [u32; 1024] = [0; 1024];
+    let total = fill_slacks(book, offsets, n, m, &mut slacks);
+    find_by_slacks(&slacks, n, m, total, buffer)
 }

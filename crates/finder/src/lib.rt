@@ -1,9 +1,9 @@
 // Finding an order (document 01, "Finding an order"): the free pair of lowest lot, then lowest call, is taken until none remains or none is
 // free. A pair is free where, against each lot that still has its call, its lot's gap is the least of those that remain.
 pub mod inner;
-mod rooms;
 mod rows;
 mod search;
+mod slacks;
 mod waiting;
 mod words;
 mod writing;
@@ -26,13 +26,13 @@ pub fn find_order(book: &[u8], order: &mut [u8]) -> Found
         return Found::Refused(files::refusal_of(counts));
     };
     let offsets = book::inner::offsets(book, n);
-    let mut rooms: [u32; 1024] = [0; 1024];
-    let total = rooms::fill_rooms(book, &offsets, n, m, &mut rooms);
+    let mut slacks: [u32; 1024] = [0; 1024];
+    let total = slacks::fill_slacks(book, &offsets, n, m, &mut slacks);
     let length = 7 + 2 * total;
     if order.len() < length {
         return Found::Refused(Refusal::BufferTooShort);
     }
-    let found = search::find_by_rooms(&rooms, n, m, total, order);
+    let found = search::find_by_slacks(&slacks, n, m, total, order);
     let Search::Found(_) = found else {
         return Found::Refused(Refusal::NoOrder);
     };

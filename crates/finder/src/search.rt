@@ -15,14 +15,14 @@ ghost use mathlib.Core.Path.{_≡_};
 ghost use Prim.Native.Nat.{_+_, _*_, _/_, _%_, _≤_, _<_};
 ghost use lib.ListN.{length, set};
 ghost use Rattle.transport.specs.Finder.{size, find};
-ghost use Rattle.finder.specs.Rooms.{roomed, Capped, Rooms};
+ghost use Rattle.finder.specs.Slacks.{bySlacks, Capped, Slacks};
 ghost use Rattle.finder.specs.Work.{Holding, Finds};
 ghost use Rattle.finder.specs.Writing.{Orders};
 
-// The pair at place x is taken: its room goes, the rows of its lot are worked out, and the pairs that may be free then are to be tried.
+// The pair at place x is taken: its slack goes, the rows of its lot are worked out, and the pairs that may be free then are to be tried.
 // By a place of 16 bits the compiler does not carry the addresses of a lot's rows through the search for the next pair.
 fn take_pair(
-    rooms: &[u32; 1024],
+    slacks: &[u32; 1024],
     n: usize,
     x: u16,
     live: &mut [u32; 1024],
@@ -32,10 +32,10 @@ fn take_pair(
     asks: &mut [u32; 32],
     lefts: &mut [u32; 32],
 )
-    requires { ⌜ (n ≤ 32) × Capped (now rooms) × (x < 1024) × (x / 32 < n) ⌝ }
-    requires { ⌜ Holding (now rooms) n (now live) (now tails) (now least) (now waits) (now asks) (now lefts) ⌝ }
+    requires { ⌜ (n ≤ 32) × Capped (now slacks) × (x < 1024) × (x / 32 < n) ⌝ }
+    requires { ⌜ Holding (now slacks) n (now live) (now tails) (now least) (now waits) (now asks) (now lefts) ⌝ }
     ensures { λ r. ⌜ now (live .exit) ≡ set (now (live .entry)) (32 * (x % 32) + x / 32) 0 ⌝ }
-    ensures { λ r. ⌜ Holding (now (rooms .entry)) n (now (live .exit)) (now (tails .exit)) (now (least .exit)) (now (waits .entry))
+    ensures { λ r. ⌜ Holding (now (slacks .entry)) n (now (live .exit)) (now (tails .exit)) (now (least .exit)) (now (waits .entry))
         (now (asks .exit)) (now (lefts .exit)) ⌝ }
 {
     let i = (x / 32) as usize;
@@ -43,24 +43,24 @@ fn take_pair(
     live[32 * j + i] = 0;
     let left = without(lefts[i], j);
     lefts[i] = left;
-    row_from(rooms, n, Lot(i), above(left, j), left, tails, least);
+    row_from(slacks, n, Lot(i), above(left, j), left, tails, least);
     ask_again(waits, n, Lot(i), Call(j), left, asks);
 }
 
 // An order of the eligible pairs: the count of its pairs, with two bytes a pair, lot and call, at the start of the array; or nothing where
 // there is none.
-fn find_pairs(rooms: &[u32; 1024], n: usize, m: usize, total: usize, pairs: &mut [u8]) -> Search
-    requires { ⌜ Rooms (now rooms) n m × (total ≡ size (roomed (now rooms) n m)) × (2048 ≤ length (now pairs)) ⌝ }
-    ensures { λ r. ⌜ Finds (find (roomed (now (rooms .entry)) n m)) r (now (pairs .exit)) ⌝ }
+fn find_pairs(slacks: &[u32; 1024], n: usize, m: usize, total: usize, pairs: &mut [u8]) -> Search
+    requires { ⌜ Slacks (now slacks) n m × (total ≡ size (bySlacks (now slacks) n m)) × (2048 ≤ length (now pairs)) ⌝ }
+    ensures { λ r. ⌜ Finds (find (bySlacks (now (slacks .entry)) n m)) r (now (pairs .exit)) ⌝ }
 {
     let mut least: [u32; 1024] = [0; 1024];
     let mut tails: [u32; 33792] = [2000001; 33792];
     let mut waits: [u8; 1024] = [0; 1024];
     let mut lefts: [u32; 32] = [0; 32];
-    let mut live = *rooms;
-    fill_lefts(rooms, n, m, &mut lefts);
+    let mut live = *slacks;
+    fill_lefts(slacks, n, m, &mut lefts);
     let mut asks = lefts;
-    fill_rows(rooms, n, &lefts, &mut tails, &mut least);
+    fill_rows(slacks, n, &lefts, &mut tails, &mut least);
     let mut count = 0;
     while count < total {
         let x = first_pair(&live, &least, n, &mut waits, &mut asks);
@@ -68,7 +68,7 @@ fn find_pairs(rooms: &[u32; 1024], n: usize, m: usize, total: usize, pairs: &mut
             return Search::Nothing;
         }
         take_pair(
-            rooms,
+            slacks,
             n,
             x as u16,
             &mut live,
@@ -85,18 +85,18 @@ fn find_pairs(rooms: &[u32; 1024], n: usize, m: usize, total: usize, pairs: &mut
 }
 
 // The order file of the order that is found; where there is none, nothing, and the buffer as it was.
-pub fn find_by_rooms(
-    rooms: &[u32; 1024],
+pub fn find_by_slacks(
+    slacks: &[u32; 1024],
     n: usize,
     m: usize,
     total: usize,
     buffer: &mut [u8],
 ) -> Search
-    requires { ⌜ Rooms (now rooms) n m × (total ≡ size (roomed (now rooms) n m)) × (7 + 2 * total ≤ length (now buffer)) ⌝ }
-    ensures { λ r. ⌜ Orders (find (roomed (now (rooms .entry)) n m)) r (now (buffer .entry)) (now (buffer .exit)) ⌝ }
+    requires { ⌜ Slacks (now slacks) n m × (total ≡ size (bySlacks (now slacks) n m)) × (7 + 2 * total ≤ length (now buffer)) ⌝ }
+    ensures { λ r. ⌜ Orders (find (bySlacks (now (slacks .entry)) n m)) r (now (buffer .entry)) (now (buffer .exit)) ⌝ }
 {
     let mut pairs: [u8; 2048] = [0; 2048];
-    let found = find_pairs(rooms, n, m, total, &mut pairs);
+    let found = find_pairs(slacks, n, m, total, &mut pairs);
     let Search::Found(count) = found else {
         return Search::Nothing;
     };

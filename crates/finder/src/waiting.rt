@@ -11,7 +11,7 @@ ghost use mathlib.Core.Bool.{not, _&&_};
 ghost use Prim.Native.Nat.{_+_, _≤_, _<_};
 ghost use lib.Dec.{eqb, ltb};
 ghost use lib.ListN.{length, getD};
-ghost use Rattle.finder.specs.Rooms.{Capped};
+ghost use Rattle.finder.specs.Slacks.{Capped};
 ghost use Rattle.finder.specs.Waiting.{First, FirstCall, Lowest, Waits, Marks, Tried, Asked};
 
 // The greater of two numbers.
@@ -21,13 +21,13 @@ fn greater(a: u32, b: u32) -> u32
     if a < b { b } else { a }
 }
 
-// Whether the gap of a cost over a lot by the room of its pair, which remains, is above a least gap; false for 0, of a pair that does not
+// Whether the gap of a cost over a lot by the slack of its pair, which remains, is above a least gap; false for 0, of a pair that does not
 // remain. One comparison serves both.
-fn exceeds(least: u32, cost: u32, room: u32) -> bool
-    requires { ⌜ (cost ≤ 1000001) × (room ≤ 1000001) ⌝ }
-    ensures { λ r. ⌜ r ≡ (not (eqb room 0) && ltb least (cost + room)) ⌝ }
+fn exceeds(least: u32, cost: u32, slack: u32) -> bool
+    requires { ⌜ (cost ≤ 1000001) × (slack ≤ 1000001) ⌝ }
+    ensures { λ r. ⌜ r ≡ (not (eqb slack 0) && ltb least (cost + slack)) ⌝ }
 {
-    greater(least, cost) < cost + room
+    greater(least, cost) < cost + slack
 }
 
 // The lowest lot from `start` on that hinders the pair, or n.

@@ -3,7 +3,7 @@ ghost use mathlib.Core.Path.{_≡_};
 ghost use Prim.Native.Nat.{ℕ, _≤_, _<_};
 ghost use lib.ListN.{length};
 ghost use Rattle.book.specs.Table.{entry};
-ghost use Rattle.finder.specs.Rooms.{Rooms};
+ghost use Rattle.finder.specs.Slacks.{Slacks};
 ghost use Rattle.finder.specs.Words.{LowestIn, HighestIn, Above, Below, Without, IncludingIf, Calls, Lefts};
 
 // The lowest call in a word.
@@ -64,27 +64,27 @@ pub fn including_if(test: bool, word: u32, j: usize) -> u32
 }
 
 // The calls that remain to lot i.
-fn left_of(rooms: &[u32; 1024], m: usize, i: usize) -> u32
-    requires { ⌜ (m ≤ 32) × (i < 32) × ((j : ℕ) → m ≤ j → j < 32 → entry (now rooms) j i ≡ 0) ⌝ }
-    ensures { λ r. ⌜ Calls (now (rooms .entry)) i r ⌝ }
+fn left_of(slacks: &[u32; 1024], m: usize, i: usize) -> u32
+    requires { ⌜ (m ≤ 32) × (i < 32) × ((j : ℕ) → m ≤ j → j < 32 → entry (now slacks) j i ≡ 0) ⌝ }
+    ensures { λ r. ⌜ Calls (now (slacks .entry)) i r ⌝ }
 {
     let mut word = 0;
     let mut j = 0;
     while j < m {
-        word = including_if(rooms[32 * j + i] != 0, word, j);
+        word = including_if(slacks[32 * j + i] != 0, word, j);
         j += 1;
     }
     word
 }
 
 // The calls that remain to each lot.
-pub fn fill_lefts(rooms: &[u32; 1024], n: usize, m: usize, lefts: &mut [u32; 32])
-    requires { ⌜ Rooms (now rooms) n m × (length (now lefts) ≡ 32) ⌝ }
-    ensures { λ r. ⌜ Lefts (now (rooms .entry)) n (now (lefts .exit)) ⌝ }
+pub fn fill_lefts(slacks: &[u32; 1024], n: usize, m: usize, lefts: &mut [u32; 32])
+    requires { ⌜ Slacks (now slacks) n m × (length (now lefts) ≡ 32) ⌝ }
+    ensures { λ r. ⌜ Lefts (now (slacks .entry)) n (now (lefts .exit)) ⌝ }
 {
     let mut i = 0;
     while i < n {
-        lefts[i] = left_of(rooms, m, i);
+        lefts[i] = left_of(slacks, m, i);
         i += 1;
     }
 }

@@ -14,7 +14,7 @@ use Rattle.specification.specs.Find.{orderLength}
 use Rattle.specification.proofs.Books.{size-within}
 use Rattle.book.specs.Table.{problemBy}
 use Rattle.book.proofs.Readable.{Read, counts-are}
-use Rattle.finder.specs.Rooms.{roomed}
+use Rattle.finder.specs.Slacks.{bySlacks}
 use Rattle.finder.proofs.Books.{states-same, stated, refusal-is, found-refused, found-short, refused-replies, none-replies, some-replies}
 use Rattle.finder.proofs.find_order.Statement.{statement}
 use Rattle.finder.proofs.find_order.Tie as tie
@@ -39,16 +39,16 @@ module _ (c : tie.After-known-told) where
   read : Read book n m
   read = counts-are _ (sym gave)
 
--- its table of offsets states its problem, and the table of rooms the same
+-- its table of offsets states its problem, and the table of slacks the same
 by-table : (c : tie.After-offsets) → Same (problemBy (book (c .before)) (c .offsets .result) (n (c .before)) (m (c .before))) (problemOf (book (c .before)))
 by-table c = states-same _ _ _ _ (read (c .before)) (c .offsets .ensures)
 
-same-order : (c : tie.After-fill-rooms)
-    → find (roomed (c .fill-rooms .last .1 .1 .1 .1 .0) (n (c .before .before .before .before)) (m (c .before .before .before .before))) ≡ find (problemOf (book (c .before .before .before .before)))
-same-order c = sym (find-of-same (c .fill-rooms .ensures .0)) ∙ find-of-same (by-table (c .before .before .before))
+same-order : (c : tie.After-fill-slacks)
+    → find (bySlacks (c .fill-slacks .last .1 .1 .1 .1 .0) (n (c .before .before .before .before)) (m (c .before .before .before .before))) ≡ find (problemOf (book (c .before .before .before .before)))
+same-order c = sym (find-of-same (c .fill-slacks .ensures .0)) ∙ find-of-same (by-table (c .before .before .before))
 
-size-is : (c : tie.After-fill-rooms) → c .fill-rooms .result ≡ size (problemOf (book (c .before .before .before .before)))
-size-is c = c .fill-rooms .ensures .1 .1 ∙ sym (size-of-same (c .fill-rooms .ensures .0)) ∙ size-of-same (by-table (c .before .before .before))
+size-is : (c : tie.After-fill-slacks) → c .fill-slacks .result ≡ size (problemOf (book (c .before .before .before .before)))
+size-is c = c .fill-slacks .ensures .1 .1 ∙ sym (size-of-same (c .fill-slacks .ensures .0)) ∙ size-of-same (by-table (c .before .before .before))
 
 long-enough : (c : tie.Else1) → orderLength (book (c .before .before .before .before .before)) ≤ length (start (c .before .before .before .before .before) .args .order .now)
 long-enough c = omega (arith, size-is (c .before), c .if1 .left)
@@ -61,8 +61,8 @@ returns c =
 offsets-requires : tie.Need-offsets-requires
 offsets-requires c κs = (read c .is-readable, read c .lots-is)
 
-fill-rooms-requires : tie.Need-fill-rooms-requires
-fill-rooms-requires c κs = (stated _ _ _ _ (read (c .before .before .before)) (c .before .before .offsets .ensures), refl)
+fill-slacks-requires : tie.Need-fill-slacks-requires
+fill-slacks-requires c κs = (stated _ _ _ _ (read (c .before .before .before)) (c .before .before .offsets .ensures), refl)
 
 mul-length : tie.Need-mul-length
 mul-length c = omega (arith, size-is c, size-within (read (c .before .before .before .before) .known))
@@ -73,20 +73,20 @@ add-length c = omega (arith, size-is c, size-within (read (c .before .before .be
 returns-2 : tie.Need-returns-2
 returns-2 c = refused-replies _ _ 17 [] (found-short _ _ (gave (c .before .before .before .before .before)) (omega (arith, size-is (c .before), c .if1 .taken)))
 
-find-by-rooms-requires : tie.Need-find-by-rooms-requires
-find-by-rooms-requires c κs = let r = c .before .before .before .fill-rooms .ensures in (r .1 .0, r .1 .1, c .before .before .if1 .left)
+find-by-slacks-requires : tie.Need-find-by-slacks-requires
+find-by-slacks-requires c κs = let r = c .before .before .before .fill-slacks .ensures in (r .1 .0, r .1 .1, c .before .before .if1 .left)
 
 returns-3 : tie.Need-returns-3
 returns-3 c =
     let passed = c .before .before .before .before .before .before .before in
     none-replies _ _ _ (gave (passed .before .before .before .before .before)) (long-enough passed) _ (same-order (passed .before)) _
-    (c .before .before .before .before .find-by-rooms .ensures) (c .enum-told3 .given .1)
+    (c .before .before .before .before .find-by-slacks .ensures) (c .enum-told3 .given .1)
 
 returns-4 : tie.Need-returns-4
 returns-4 c =
     let passed = c .before .before .before .before .before .before .before in
     let replies = some-replies _ _ _ (gave (passed .before .before .before .before .before)) (long-enough passed) _ (same-order (passed .before)) _
-    (c .before .before .before .before .find-by-rooms .ensures) _ (c .enum-told2 .given .1) in
+    (c .before .before .before .before .find-by-slacks .ensures) _ (c .enum-told2 .given .1) in
     (ap (λ (k : ℕ). gives (7 + 2 * k)) (size-is (passed .before)) ∙ replies .0, replies .1)
 
 pub find-order-spec : {M : Type 1} → statement M
@@ -99,11 +99,11 @@ find-order-spec =
     (λ c κs. search needs)
     returns
     offsets-requires
-    fill-rooms-requires
+    fill-slacks-requires
     mul-length
     add-length
     returns-2
-    find-by-rooms-requires
+    find-by-slacks-requires
     (λ c. search needs)
     (λ c. search needs)
     (λ c. search needs)

@@ -9,12 +9,12 @@ use Rattle.finder.proofs.rows.fill_rows.Statement.{statement}
 use Rattle.finder.proofs.rows.fill_rows.Tie as tie
 
 abbrev Inv-loop : tie.InvT-loop
-Inv-loop rooms n lefts tails₀ least₀ i₀ tails least i =
-    (i ≤ n) × AllRows rooms lefts n i tails least
+Inv-loop slacks n lefts tails₀ least₀ i₀ tails least i =
+    (i ≤ n) × AllRows slacks lefts n i tails least
     × ((a : ℕ) → i ≤ a → a < n → (k : ℕ) → k < n → entry tails (33 * a + 32) k ≡ 2000001)
 
 abbrev μ-loop : tie.MeasureT-loop
-μ-loop rooms n lefts tails₀ least₀ i₀ tails least i = n - i
+μ-loop slacks n lefts tails₀ least₀ i₀ tails least i = n - i
 
 loop-holds : tie.Need-loop-holds Inv-loop μ-loop
 loop-holds c =
@@ -30,7 +30,7 @@ row-from-requires c κs =
     let p = c .before .before .before .before .before .pre in
     let inv = c .before .before .before .before .loop .inv in (
       (p .0, omega arith, inv .1 .tails-long, inv .1 .least-long, p .1),
-      begun-last (a .rooms .now) (a .n) _ _ (p .0) _ (inv .2 _ (omega arith) (c .before .before .before .loop-test .taken)),
+      begun-last (a .slacks .now) (a .n) _ _ (p .0) _ (inv .2 _ (omega arith) (c .before .before .before .loop-test .taken)),
     )
 
 loop-again : tie.Need-loop-again Inv-loop μ-loop
@@ -40,8 +40,8 @@ loop-again c =
     let inv = c .before .before .before .before .before .loop .inv in
     let r = c .row-from .ensures in (
       omega arith,
-      all-rows-more (a .rooms .now) (a .lefts .now) (a .n) few _ _ _ _ _ (inv .1) r,
-      ends-stay (a .rooms .now) (a .lefts .now) (a .n) few _ _ _ (inv .2) (r .apart),
+      all-rows-more (a .slacks .now) (a .lefts .now) (a .n) few _ _ _ _ _ (inv .1) r,
+      ends-stay (a .slacks .now) (a .lefts .now) (a .n) few _ _ _ (inv .2) (r .apart),
     )
 
 returns : tie.Need-returns Inv-loop μ-loop

@@ -8,11 +8,11 @@ use Rattle.finder.proofs.rows.lower_from.Statement.{statement}
 use Rattle.finder.proofs.rows.lower_from.Tie as tie
 
 abbrev Inv-loop : tie.InvT-loop
-Inv-loop rooms n above left tails₀ i up₀ calls₀ tails up calls =
-    Begun rooms n left i up tails × Apart i tails₀ tails × Below left up calls
+Inv-loop slacks n above left tails₀ i up₀ calls₀ tails up calls =
+    Begun slacks n left i up tails × Apart i tails₀ tails × Below left up calls
 
 abbrev μ-loop : tie.MeasureT-loop
-μ-loop rooms n above left tails₀ i up₀ calls₀ tails up calls = calls
+μ-loop slacks n above left tails₀ i up₀ calls₀ tails up calls = calls
 
 below-requires : tie.Need-below-requires Inv-loop μ-loop
 below-requires c κs = tt
@@ -45,8 +45,8 @@ loop-again c =
     let inv = c .before .before .before .before .before .loop .inv in
     let high = c .before .before .before .highest .ensures .0 in
     let row = c .lower-row .ensures in (
-      begun-next (a .rooms .now) (a .n) (a .left) (a .lot .0) few _ _ (inv .0) _ _ (inv .2) high _ row,
-      apart-next (a .rooms .now) (a .n) (a .left) (a .lot .0) few _ _ (inv .0) _ _ (inv .2) high _ row _ (inv .1),
+      begun-next (a .slacks .now) (a .n) (a .left) (a .lot .0) few _ _ (inv .0) _ _ (inv .2) high _ row,
+      apart-next (a .slacks .now) (a .n) (a .left) (a .lot .0) few _ _ (inv .0) _ _ (inv .2) high _ row _ (inv .1),
       below-next _ _ _ _ _ (inv .2) high (c .before .before .without .ensures),
     )
 

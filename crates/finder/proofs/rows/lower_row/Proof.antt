@@ -10,11 +10,11 @@ use Rattle.finder.proofs.rows.lower_row.Statement.{statement}
 use Rattle.finder.proofs.rows.lower_row.Tie as tie
 
 abbrev Inv-loop : tie.InvT-loop
-Inv-loop tails₀ rooms n i up p cost k₀ tails k =
-    (cost ≡ 1000001 - entry rooms p i) × (k ≤ n) × Filled (33 * i + p) (λ a. min (entry tails₀ (33 * i + up) a) (gapAt rooms i a p)) k tails₀ tails
+Inv-loop tails₀ slacks n i up p cost k₀ tails k =
+    (cost ≡ 1000001 - entry slacks p i) × (k ≤ n) × Filled (33 * i + p) (λ a. min (entry tails₀ (33 * i + up) a) (gapAt slacks i a p)) k tails₀ tails
 
 abbrev μ-loop : tie.MeasureT-loop
-μ-loop tails₀ rooms n i up p cost k₀ tails k = n - k
+μ-loop tails₀ slacks n i up p cost k₀ tails k = n - k
 
 sub-cost : tie.Need-sub-cost Inv-loop μ-loop
 sub-cost c = let a = c .before .args in c .before .pre .5 (32 * a .p + a .i)
@@ -33,7 +33,7 @@ loop-again c =
     let a = c .before .before .before .before .before .before .before .args in
     let loop = c .before .before .before .before .before .loop in
     let inv = loop .inv in
-    let gap = c .before .gap-by .ensures ∙ ap (λ (x : ℕ). gapBy x (entry (a .rooms .now) (a .p) (loop .k))) (inv .0) in (
+    let gap = c .before .gap-by .ensures ∙ ap (λ (x : ℕ). gapBy x (entry (a .slacks .now) (a .p) (loop .k))) (inv .0) in (
       inv .0,
       omega arith,
       filled-more _ _ _ _ _ _ (inv .2) (c .lesser .ensures ∙ ap₂ min (inv .2 .others (33 * a .i + a .up) _ (λ e. omega arith) (omega arith)) gap)

@@ -20,7 +20,7 @@ returns : tie.Need-returns
 returns c =
     let a = c .before .before .before .before .before .args in
     let r = c .before .before .before .lower-from .ensures in
-    rows-of (a .rooms .now) (a .n) (a .left) (a .lot .0) (c .before .before .before .before .before .pre .0 .0) _ _ _ _ _ (r .0 .0) (r .0 .1) (r .1) (c .copy-row .ensures)
+    rows-of (a .slacks .now) (a .n) (a .left) (a .lot .0) (c .before .before .before .before .before .pre .0 .0) _ _ _ _ _ (r .0 .0) (r .0 .1) (r .1) (c .copy-row .ensures)
 
 pub row-from-spec : {M : Type 1} → statement M
 row-from-spec = tie.close (tie.spec lower-from-requires (λ c. search needs) add-copy-row copy-row-requires returns)

@@ -5,7 +5,7 @@ use Prim.Native.Nat.{_-_, _<_}
 use native.Mathlib.Omega.{arith}
 use lib.ListN.{length}
 use Rattle.transport.specs.Finder.{next}
-use Rattle.finder.specs.Rooms.{remains, roomed}
+use Rattle.finder.specs.Slacks.{remains, bySlacks}
 use Rattle.finder.specs.Work.{Holding}
 use Rattle.finder.proofs.Passing.{placed, next-of-first, none-of-first}
 use Rattle.finder.proofs.Turns.{Going, ends-first, holding-first, going-start, going-stop, going-done, going-next}
@@ -13,12 +13,12 @@ use Rattle.finder.proofs.search.find_pairs.Statement.{statement}
 use Rattle.finder.proofs.search.find_pairs.Tie as tie
 
 abbrev Inv-loop : tie.InvT-loop
-Inv-loop rooms n m total pairs₀ least₀ tails₀ waits₀ lefts₀ live₀ asks₀ count₀ pairs least tails waits lefts live asks count =
-    (length pairs ≡ length pairs₀) × Going (roomed rooms n m) live pairs count total
-    × Holding rooms n live tails least waits asks lefts
+Inv-loop slacks n m total pairs₀ least₀ tails₀ waits₀ lefts₀ live₀ asks₀ count₀ pairs least tails waits lefts live asks count =
+    (length pairs ≡ length pairs₀) × Going (bySlacks slacks n m) live pairs count total
+    × Holding slacks n live tails least waits asks lefts
 
 abbrev μ-loop : tie.MeasureT-loop
-μ-loop rooms n m total pairs₀ least₀ tails₀ waits₀ lefts₀ live₀ asks₀ count₀ pairs least tails waits lefts live asks count = total - count
+μ-loop slacks n m total pairs₀ least₀ tails₀ waits₀ lefts₀ live₀ asks₀ count₀ pairs least tails waits lefts live asks count = total - count
 
 -- the place that was found is that of the next pair
 module _ (c : tie.Else1 Inv-loop μ-loop) where
@@ -34,7 +34,7 @@ module _ (c : tie.Else1 Inv-loop μ-loop) where
   place-in : c .before .first-pair .result < 1024
   place-in = omega (arith, c .before .first-pair .ensures .0 .within, c .if1 .left)
 
-  is-next : next (roomed (start .args .rooms .now) (start .args .n) (start .args .m)) (remains (top .loop .live)) ≡ some (placed (c .before .first-pair .result))
+  is-next : next (bySlacks (start .args .slacks .now) (start .args .n) (start .args .m)) (remains (top .loop .live)) ≡ some (placed (c .before .first-pair .result))
   is-next = next-of-first _ _ _ (start .pre .0) _ _ _ _ _ _ (top .loop .inv .2) _ (c .before .first-pair .ensures .0) place-in
 
 fill-lefts-requires : tie.Need-fill-lefts-requires Inv-loop μ-loop
@@ -48,8 +48,8 @@ loop-holds c =
     let a = c .before .before .before .before .before .before .before .before .args in
     let p = c .before .before .before .before .before .before .before .before .pre in (
       refl,
-      going-start (a .rooms .now) (a .n) (a .m) (p .0) _ _ (p .1),
-      holding-first (a .rooms .now) (a .n) (a .m) (p .0) _ _ _ (c .fill-rows .ensures) (c .before .before .before .before .fill-lefts .ensures),
+      going-start (a .slacks .now) (a .n) (a .m) (p .0) _ _ (p .1),
+      holding-first (a .slacks .now) (a .n) (a .m) (p .0) _ _ _ (c .fill-rows .ensures) (c .before .before .before .before .fill-lefts .ensures),
     )
 
 first-pair-requires : tie.Need-first-pair-requires Inv-loop μ-loop
@@ -66,8 +66,8 @@ returns c =
     let a = start .args in
     let r = start .pre .0 in
     let inv = c .before .before .before .before .before .before .before .loop .inv in
-    going-stop (a .rooms .now) (a .n) (a .m) r _ _ _ _ (inv .1) (c .before .before .before .before .before .before .loop-test .taken)
-    (none-of-first (a .rooms .now) (a .n) (a .m) r _ _ _ _ _ _ (inv .2) _ (c .before .first-pair .ensures .0) (c .if1 .taken))
+    going-stop (a .slacks .now) (a .n) (a .m) r _ _ _ _ (inv .1) (c .before .before .before .before .before .before .loop-test .taken)
+    (none-of-first (a .slacks .now) (a .n) (a .m) r _ _ _ _ _ _ (inv .2) _ (c .before .first-pair .ensures .0) (c .if1 .taken))
 
 cast-take-pair : tie.Need-cast-take-pair Inv-loop μ-loop
 cast-take-pair c = omega (arith, place-in c)
@@ -109,7 +109,7 @@ loop-again c =
     let inv = top found .loop .inv in
     let t = c .before .before .before .before .take-pair .ensures in (
       c .before .before .put .kept .0 ∙ inv .0,
-      going-next (a .rooms .now) (a .n) (a .m) (start found .pre .0) _ _ _ _ (inv .1) _ (place-in found) (more found) (inv .2 .live-long) (is-next found) _ _
+      going-next (a .slacks .now) (a .n) (a .m) (start found .pre .0) _ _ _ _ (inv .1) _ (place-in found) (more found) (inv .2 .live-long) (is-next found) _ _
           (t .0) (c .before .before .put .ensures),
       t .1,
     )
@@ -121,7 +121,7 @@ returns-2 : tie.Need-returns-2 Inv-loop μ-loop
 returns-2 c =
     let a = c .before .before .before .before .before .before .before .before .before .before .args in
     let r = c .before .before .before .before .before .before .before .before .before .before .pre .0 in
-    going-done (a .rooms .now) (a .n) (a .m) r _ _ _ _ (c .before .loop .inv .1) (c .loop-test .left)
+    going-done (a .slacks .now) (a .n) (a .m) r _ _ _ _ (c .before .loop .inv .1) (c .loop-test .left)
 
 pub find-pairs-spec : {M : Type 1} → statement M
 find-pairs-spec =

@@ -14,7 +14,7 @@ row-from-requires c κs =
     let p = c .before .before .before .before .before .pre in
     let h = p .1 in (
       (p .0 .0, omega arith, h .rows-hold .tails-long, h .rows-hold .least-long, p .0 .1),
-      begun-then (a .rooms .now) (a .n) (getD (a .lefts .now) (a .x / 32) 0) (a .x / 32) (a .x % 32) _ (c .before .before .before .without .ensures) _ _
+      begun-then (a .slacks .now) (a .n) (getD (a .lefts .now) (a .x / 32) 0) (a .x / 32) (a .x % 32) _ (c .before .before .before .without .ensures) _ _
           (h .rows-hold .stand (a .x / 32) (p .0 .3)) (c .before .before .above .ensures),
     )
 
@@ -28,7 +28,7 @@ returns c =
     let rows = c .before .before .row-from .ensures in
     let r = c .ask-again .ensures in (
       refl,
-      holding-then (a .rooms .now) (a .n) (p .0 .0) _ _ _ _ _ _ (p .1) (a .x) (p .0 .2) (p .0 .3) _ (c .before .before .before .before .before .before .without .ensures) _ _ rows _ (r .0) (r .1),
+      holding-then (a .slacks .now) (a .n) (p .0 .0) _ _ _ _ _ _ (p .1) (a .x) (p .0 .2) (p .0 .3) _ (c .before .before .before .before .before .before .without .ensures) _ _ rows _ (r .0) (r .1),
     )
 
 pub take-pair-spec : {M : Type 1} → statement M

@@ -8,7 +8,7 @@ returns : tie.Need-returns
 returns c =
     let a = c .before .args in
     let g = c .greater .ensures in
-    exceeds-is (a .least) (a .cost) (a .room) _ (g .0) (g .1) (g .2)
+    exceeds-is (a .least) (a .cost) (a .slack) _ (g .0) (g .1) (g .2)
 
 pub exceeds-spec : {M : Type 1} → statement M
 exceeds-spec = tie.close (tie.spec (λ c κs. search needs) (λ c. search needs) returns)

@@ -1,7 +1,7 @@
 -- `finder::waiting::try_call` meets its contract. A pair whose mark reaches n can be taken, and the lot at a lower mark hinders it (`tried-some`).
 use native.Mathlib.Omega.{arith}
 use borrow.Author.Needs.{needs}
-use Rattle.finder.proofs.Roomed.{remains-says, remains-of}
+use Rattle.finder.proofs.BySlacks.{remains-says, remains-of}
 use Rattle.finder.proofs.Marks.{tried-none, tried-some}
 use Rattle.finder.proofs.waiting.try_call.Statement.{statement}
 use Rattle.finder.proofs.waiting.try_call.Tie as tie

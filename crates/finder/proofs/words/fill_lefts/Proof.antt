@@ -8,11 +8,11 @@ use Rattle.finder.proofs.words.fill_lefts.Statement.{statement}
 use Rattle.finder.proofs.words.fill_lefts.Tie as tie
 
 abbrev Inv-loop : tie.InvT-loop
-Inv-loop rooms n m lefts₀ i₀ lefts i =
-    (i ≤ n) × Lefts rooms i lefts
+Inv-loop slacks n m lefts₀ i₀ lefts i =
+    (i ≤ n) × Lefts slacks i lefts
 
 abbrev μ-loop : tie.MeasureT-loop
-μ-loop rooms n m lefts₀ i₀ lefts i = n - i
+μ-loop slacks n m lefts₀ i₀ lefts i = n - i
 
 loop-holds : tie.Need-loop-holds Inv-loop μ-loop
 loop-holds c = (omega arith, record { each = λ i h. absurd (omega arith); long = c .pre .1 })
@@ -25,7 +25,7 @@ left-of-requires c κs =
 loop-again : tie.Need-loop-again Inv-loop μ-loop
 loop-again c =
     let inv = c .before .before .loop .inv in
-    (omega arith, lefts-more (c .before .before .before .args .rooms .now) _ _ _ (omega (arith, c .before .before .before .pre .0 .lots-few)) (inv .1) (c .left-of .ensures))
+    (omega arith, lefts-more (c .before .before .before .args .slacks .now) _ _ _ (omega (arith, c .before .before .before .pre .0 .lots-few)) (inv .1) (c .left-of .ensures))
 
 returns : tie.Need-returns Inv-loop μ-loop
 returns c =

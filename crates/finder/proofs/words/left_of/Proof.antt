@@ -7,11 +7,11 @@ use Rattle.finder.proofs.words.left_of.Statement.{statement}
 use Rattle.finder.proofs.words.left_of.Tie as tie
 
 abbrev Inv-loop : tie.InvT-loop
-Inv-loop rooms m i word₀ j₀ word j =
-    (j ≤ m) × Begins rooms i j word
+Inv-loop slacks m i word₀ j₀ word j =
+    (j ≤ m) × Begins slacks i j word
 
 abbrev μ-loop : tie.MeasureT-loop
-μ-loop rooms m i word₀ j₀ word j = m - j
+μ-loop slacks m i word₀ j₀ word j = m - j
 
 loop-holds : tie.Need-loop-holds Inv-loop μ-loop
 loop-holds c = (omega arith, begins-none _ _)
@@ -19,13 +19,13 @@ loop-holds c = (omega arith, begins-none _ _)
 loop-again : tie.Need-loop-again Inv-loop μ-loop
 loop-again c =
     let a = c .before .before .before .before .args in
-    (omega arith, begins-more (a .rooms .now) (a .i) _ _ _ (c .before .before .before .loop .inv .1) (c .including-if .ensures))
+    (omega arith, begins-more (a .slacks .now) (a .i) _ _ _ (c .before .before .before .loop .inv .1) (c .including-if .ensures))
 
 returns : tie.Need-returns Inv-loop μ-loop
 returns c =
     let a = c .before .before .args in
     let e : c .before .loop .j ≡ a .m = omega arith in
-    begins-all (a .rooms .now) (a .i) (a .m) _ (rw e at (c .before .loop .inv .1)) (c .before .before .pre .2)
+    begins-all (a .slacks .now) (a .i) (a .m) _ (rw e at (c .before .loop .inv .1)) (c .before .before .pre .2)
 
 pub left-of-spec : {M : Type 1} → statement M
 left-of-spec =

@@ -1,7 +1,7 @@
--- `finder::rooms::one_if` meets its contract. Its two cases are those of `oneIf`.
+-- `finder::slacks::one_if` meets its contract. Its two cases are those of `oneIf`.
 use borrow.Author.Tests.{eq-eqb, ne-eqb}
-use Rattle.finder.proofs.rooms.one_if.Statement.{statement}
-use Rattle.finder.proofs.rooms.one_if.Tie as tie
+use Rattle.finder.proofs.slacks.one_if.Statement.{statement}
+use Rattle.finder.proofs.slacks.one_if.Tie as tie
 
 returns : tie.Need-returns
 returns c = simp (eq-eqb _ _ (c .if1 .taken))

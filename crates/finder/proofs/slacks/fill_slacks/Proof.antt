@@ -1,5 +1,5 @@
--- `finder::rooms::fill_rooms` meets its contract. The invariant: the rows of the calls passed are filled, the others are 0, and the count is their
--- sum. All rows filled state the book's problem (`states-rooms`, `count-rooms`).
+-- `finder::slacks::fill_slacks` meets its contract. The invariant: the rows of the calls passed are filled, the others are 0, and the count is their
+-- sum. All rows filled state the book's problem (`states-slacks`, `count-slacks`).
 use mathlib.Core.Path.{_≡_, refl, _∙_, ap, subst⁻¹}
 use mathlib.Core.List.{List}
 use Prim.Native.Nat.{ℕ, _+_, _*_, _-_, _≤_, _<_}
@@ -7,20 +7,20 @@ use native.Mathlib.Omega.{arith}
 use lib.ListN.{length, length-replicate, getD-replicate}
 use Rattle.transport.specs.Problem.{sum}
 use Rattle.book.specs.Table.{entry}
-use Rattle.finder.specs.Rooms.{Capped, roomOf, oneIf}
+use Rattle.finder.specs.Slacks.{Capped, slackOf, oneIf}
 use Rattle.finder.proofs.Tables.{sum-more, rows-more}
-use Rattle.finder.proofs.Roomed.{capped-zeros, states-rooms, count-rooms}
-use Rattle.finder.proofs.rooms.fill_rooms.Statement.{statement}
-use Rattle.finder.proofs.rooms.fill_rooms.Tie as tie
+use Rattle.finder.proofs.BySlacks.{capped-zeros, states-slacks, count-slacks}
+use Rattle.finder.proofs.slacks.fill_slacks.Statement.{statement}
+use Rattle.finder.proofs.slacks.fill_slacks.Tie as tie
 
 abbrev Inv-loop : tie.InvT-loop
-Inv-loop book offsets n m rooms₀ count₀ l₀ rooms count l =
-    (l ≤ m) × (length rooms ≡ 1024) × Capped rooms × (count ≡ sum l (λ j. sum n (λ i. oneIf (roomOf book offsets i j)))) × (count ≤ 32 * l)
-    × ((j : ℕ) → j < l → (i : ℕ) → i < n → entry rooms j i ≡ roomOf book offsets i j)
-    × ((j : ℕ) → l ≤ j → j < 32 → (i : ℕ) → i < n → entry rooms j i ≡ 0)
+Inv-loop book offsets n m slacks₀ count₀ l₀ slacks count l =
+    (l ≤ m) × (length slacks ≡ 1024) × Capped slacks × (count ≡ sum l (λ j. sum n (λ i. oneIf (slackOf book offsets i j)))) × (count ≤ 32 * l)
+    × ((j : ℕ) → j < l → (i : ℕ) → i < n → entry slacks j i ≡ slackOf book offsets i j)
+    × ((j : ℕ) → l ≤ j → j < 32 → (i : ℕ) → i < n → entry slacks j i ≡ 0)
 
 abbrev μ-loop : tie.MeasureT-loop
-μ-loop book offsets n m rooms₀ count₀ l₀ rooms count l = m - l
+μ-loop book offsets n m slacks₀ count₀ l₀ slacks count l = m - l
 
 loop-holds : tie.Need-loop-holds Inv-loop μ-loop
 unfolding sum
@@ -54,9 +54,9 @@ loop-again c =
       omega arith,
       r .0 .0 .long ∙ inv .1,
       r .0 .1,
-      rw (r .1 .0, inv .3) (sum-more _ (λ j. sum (a .n) (λ i. oneIf (roomOf (a .book .now) (a .offsets .now) i j)))),
+      rw (r .1 .0, inv .3) (sum-more _ (λ j. sum (a .n) (λ i. oneIf (slackOf (a .book .now) (a .offsets .now) i j)))),
       omega (arith, s .lots-few),
-      rows-more (λ j i. roomOf (a .book .now) (a .offsets .now) i j) (a .n) _ _ _ (s .lots-few) (inv .5) (r .0 .0),
+      rows-more (λ j i. slackOf (a .book .now) (a .offsets .now) i j) (a .n) _ _ _ (s .lots-few) (inv .5) (r .0 .0),
       λ j h hj i hi. r .0 .0 .others j i (λ e. omega arith) (omega (arith, s .lots-few)) ∙ inv .6 j (omega arith) hj i hi,
     )
 
@@ -66,9 +66,9 @@ returns c =
     let s = c .before .before .before .pre .0 in
     let inv = c .before .loop .inv in
     let e : c .before .loop .l ≡ a .m = omega arith in
-    let filled : (j : ℕ) → j < a .m → (i : ℕ) → i < a .n → entry (c .before .loop .rooms) j i ≡ roomOf (a .book .now) (a .offsets .now) i j =
+    let filled : (j : ℕ) → j < a .m → (i : ℕ) → i < a .n → entry (c .before .loop .slacks) j i ≡ slackOf (a .book .now) (a .offsets .now) i j =
     λ j h. inv .5 j (omega arith) in (
-      states-rooms (a .book .now) (a .offsets .now) (a .n) (a .m) s (c .before .loop .rooms) filled,
+      states-slacks (a .book .now) (a .offsets .now) (a .n) (a .m) s (c .before .loop .slacks) filled,
       (
         record {
           lots-few = s .lots-few;
@@ -77,12 +77,12 @@ returns c =
           beyond = λ i j hi h hj. inv .6 j (omega arith) hj i hi;
           long = inv .1;
         },
-        rw e at (inv .3) ∙ count-rooms (a .book .now) (a .offsets .now) (a .n) (a .m) s (c .before .loop .rooms) filled,
+        rw e at (inv .3) ∙ count-slacks (a .book .now) (a .offsets .now) (a .n) (a .m) s (c .before .loop .slacks) filled,
       ),
     )
 
-pub fill-rooms-spec : {M : Type 1} → statement M
-fill-rooms-spec =
+pub fill-slacks-spec : {M : Type 1} → statement M
+fill-slacks-spec =
     tie.close
     (tie.spec
     Inv-loop
