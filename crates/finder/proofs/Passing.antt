@@ -11,7 +11,7 @@ use borrow.Author.Tests.{eq-eqb, ne-eqb}
 use lib.Dec.{T, leb, le→leb}
 use lib.ListN.{getD}
 use Rattle.transport.specs.Problem.{Problem}
-use Rattle.transport.specs.Greedy.{Pair}
+use Rattle.transport.specs.Greedy.{Pair, pair}
 use Rattle.transport.specs.Finder.{next}
 use Rattle.transport.proofs.Laws.Tests.{T-true, T-false, and-says, and-of}
 use Rattle.transport.proofs.Laws.Sets.{Among}
@@ -30,7 +30,7 @@ use Rattle.finder.proofs.Marks.{hinders-says, passes-says}
 
 -- the pair of a place
 abbrev pub placed : ℕ → Pair
-placed x = record { lot = x / 32; call = x % 32 }
+placed x = pair (x / 32) (x % 32)
 
 module _ (slacks : List ℕ) (n m : ℕ) (r : Slacks slacks n m) where
   abbrev P : Problem

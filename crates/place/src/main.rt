@@ -17,8 +17,8 @@ fn read_file(path: &[u8], buffer: &mut [u8]) -> usize
 }
 
 fn main() {
-    let mut book = [0u8; 4232];
-    let mut amounts = [0u8; 264];
+    let mut book = [0u8; placer::BOOK_MOST];
+    let mut amounts = [0u8; placer::AMOUNTS_MOST];
     let book_length = read_file(b"book.clb", &mut book);
     let amounts_length = read_file(b"amounts.cla", &mut amounts);
     let text = placer::printed_text(&book[..book_length], &amounts[..amounts_length]);

@@ -51,13 +51,18 @@ pub fn find_and_run(book: &[u8], amounts: &[u8], flow: &mut [u32]) -> Placed
     )
 }
 
-// The text that is printed of a book and its amounts, of which at most 4,232 and 264 bytes are read.
+// How many bytes of each file are read at most: one more than the largest file has, so that a longer one is refused.
+pub const BOOK_MOST: usize = 4232;
+
+pub const AMOUNTS_MOST: usize = 264;
+
+// The text that is printed of a book and its amounts, of each of which at most so many bytes are read.
 pub fn printed_text(book: &[u8], amounts: &[u8]) -> Printed
     ensures { λ r. ⌜ Prints (printed (now (book .entry)) (now (amounts .entry))) r ⌝ }
 {
-    let book = text::at_most(book, 4232);
+    let book = text::at_most(book, BOOK_MOST);
     let mut flow = [0u32; 1024];
-    let placed = find_and_run(book, text::at_most(amounts, 264), &mut flow);
+    let placed = find_and_run(book, text::at_most(amounts, AMOUNTS_MOST), &mut flow);
     let mut bytes = [0u8; 17456];
     let lots = files::u8_at(book, 5) as usize;
     let calls = files::u8_at(book, 6) as usize;
