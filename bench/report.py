@@ -32,7 +32,8 @@ Written by `bench/run` from one run of it; run it again to renew this page. Not 
   lists of pairs in memory, build their problem and solve it. LEMON is its network simplex with 64-bit numbers.
 - Lots and calls are equal in number. The amounts are such that some allocation meets everything, so that every solver has an answer.
 - Machine: one core of a {cores}-core {machine} Linux server that others were using; {compiler} -O3, for any x86-64. Differences
-  under 15 % mean nothing.
+  under 15 % mean nothing. In some runs, when the server's other users were busy, our calls took twice as long and LEMON's half as
+  long again; the instruction counts below do not depend on them.
 - {compared:,} answers (units and cost) were compared with LEMON's; {differing} differ.
 """
 
