@@ -1,10 +1,10 @@
 -- Laws of a word of 32 bits: no bit from 32 on is set, the power of two that the code makes by a shift is that power, and the count of
--- set bits below a bit grows by one past each set bit.
+-- set bits below a bit grows by one past each set bit, so that c of them below bit c are all.
 use mathlib.Core.Path.{_≡_, refl, sym, ap, _∙_}
-use Prim.Native.Nat.{ℕ, zero, suc, _+_, _*_, _/_, _%_, _^_, _≤_, _<_}
+use Prim.Native.Nat.{ℕ, zero, suc, _+_, _*_, _-_, _/_, _%_, _^_, _≤_, _<_}
 use native.Mathlib.Nat.{lt-of-lt-of-le, lt-of-le-of-lt, mod-le, mod-lt, div-eq-of-lt, mod-one, one-mul, add-comm, div-add-mod'}
 use native.Mathlib.Omega.{arith}
-use mathlib.Core.Bool.{true, false, true≢false}
+use mathlib.Core.Bool.{Bool, true, false, true≢false}
 use mathlib.Core.Logic.{⊎-elim}
 use Rattle.files.proofs.Parts.{le-or-lt}
 use borrow.Author.Tests.{eqb-true, eqb-false}
@@ -60,6 +60,27 @@ ones-below-unset word j e =
     let n = eqb-false (word / 2 ^ j % 2) 1 e in
     let l = mod-lt (word / 2 ^ j) {m = 2} (lit< tt) in
     omega (arith, ones-below-next word j, n, l)
+
+-- the count grows by at most one a bit, so where all of c bits are set, each of them is
+ones-below-slow : (word l d : ℕ) → onesBelow word (l + d) ≤ onesBelow word l + d
+ones-below-slow word l zero = let e : l + 0 ≡ l = omega arith in rw e (omega arith)
+ones-below-slow word l (suc d) =
+    let e : l + suc d ≡ l + d + 1 = omega arith in
+    rw e (omega (arith, ones-below-next word (l + d), mod-lt (word / 2 ^ (l + d)) {m = 2} (lit< tt), ones-below-slow word l d))
+
+module _ (word c : ℕ) (all : onesBelow word c ≡ c) where
+  pub ones-below-full : (l : ℕ) → l ≤ c → onesBelow word l ≡ l
+  ones-below-full l h =
+      let up : l + (c - l) ≡ c = omega arith in
+      let whole : 0 + l ≡ l = omega arith in
+      omega (arith, rw (up, all) at (ones-below-slow word l (c - l)), rw whole at (ones-below-slow word 0 l), ones-below-none word)
+
+  pub bit-of-full : (l : ℕ) → l < c → bit word l ≡ true
+  bit-of-full l h = go (bit word l) refl
+    where
+      go : (b : Bool) → bit word l ≡ b → bit word l ≡ true
+      go true e = e
+      go false e = absurd (omega (arith, ones-below-unset word l e, ones-below-full l (omega arith), ones-below-full (l + 1) (omega arith)))
 
 -- a set bit of a word below 2 ^ c is below c
 pub bit-below : (word j c : ℕ) → bit word j ≡ true → word < 2 ^ c → j < c

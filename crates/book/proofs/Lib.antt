@@ -6,4 +6,5 @@ pub mod Entering
 pub mod Filled
 pub mod Places
 pub mod Tables
+pub mod Counted
 pub mod Examples

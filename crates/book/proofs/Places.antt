@@ -16,7 +16,7 @@ use Rattle.book.specs.Table.{entry}
 use Rattle.book.proofs.Rows.{row-is}
 
 module _ (book : List ℕ) (i j : ℕ) (hi : i < 32) (hj : j < 32) where
-  entry-is : entry (offsetTable book) i j ≡ costOffset book i j
+  pub entry-is : entry (offsetTable book) i j ≡ costOffset book i j
   entry-is =
       let qi : (32 * i + j) / 32 ≡ i = omega arith in
       let qj : (32 * i + j) % 32 ≡ j = omega arith in

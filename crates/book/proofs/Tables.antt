@@ -1,26 +1,30 @@
 -- The table of offsets of a readable book. Each entry is a place in the book with four bytes from it on, and the number there is at most
--- the limit (`offsets-tabled`). The problem that the table states has the book's own eligible pairs and their costs (`problem-same`).
+-- the limit (`offsets-tabled`); the costs of a lot with all calls stand side by side (`offsets-packed`). The problem that the table states
+-- has the book's own eligible pairs and their costs (`problem-same`).
 use mathlib.Core.Path.{_≡_, refl, _∙_, subst}
-use mathlib.Core.Bool.{Bool, true, false, not, _&&_}
+use mathlib.Core.Logic.{by-cases}
+use mathlib.Core.Bool.{Bool, true, false, cond, not, _&&_}
 use mathlib.Core.List.{List}
-use Prim.Native.Nat.{ℕ, zero, suc, _+_, _*_, _/_, _%_, _≤_, _<_}
+use Prim.Native.Nat.{ℕ, zero, suc, _+_, _*_, _-_, _/_, _%_, _≤_, _<_}
+use native.Mathlib.Decide.{ℕ-discrete}
 use native.Mathlib.Omega.{arith}
 use borrow.Author.Tests.{lt-ltb, ne-eqb}
 use lib.Dec.{T, eqb, ltb, lt→ltb}
 use lib.ListN.{length, getD}
 use Rattle.transport.specs.Problem.{Eligible}
-use Rattle.transport.proofs.Laws.Tests.{T-true, and-says}
+use Rattle.transport.proofs.Laws.Tests.{T-true, and-says, counted-of, counted-says}
 use Rattle.transport.proofs.Finder.Same.{Same}
 use Rattle.specification.specs.Bytes.{u32At}
 use Rattle.specification.specs.Book.{costLimit, bit, rowWord, bookLots, bookCalls, rowAt, problemOf}
 use Rattle.specification.proofs.Flows.{tabulate-at}
 use Rattle.specification.proofs.Books.{admitted-inside, cost-within}
 use Rattle.book.specs.Pairs.{hasCost, rowStart, onesBelow, costOffset, offsetTable}
-use Rattle.book.specs.Table.{entry, admitsBy, problemBy, Tabled}
-use Rattle.book.proofs.Bits.{ones-below-set, ones-below-all}
+use Rattle.book.specs.Table.{entry, admitsBy, problemBy, Tabled, Packed}
+use Rattle.book.proofs.Bits.{ones-below-none, ones-below-set, ones-below-all, ones-below-full, bit-of-full}
 use Rattle.book.proofs.Readable.{Read}
 use Rattle.book.proofs.Rows.{row-inside}
-use Rattle.book.proofs.Places.{entry-admits, entry-cost}
+use Rattle.book.proofs.Places.{entry-is, entry-admits, entry-cost}
+use Rattle.book.proofs.Filled.{offset-row}
 
 not-zero : (x : ℕ) → not (eqb x 0) ≡ ltb 0 x
 not-zero zero = refl
@@ -64,6 +68,45 @@ module _ (book : List ℕ) {n m : ℕ} (read : Read book n m) where
           let at : k ≡ 32 * (k / 32) + k % 32 = omega arith in
           let e = eligible-at (k / 32) (k % 32) (omega arith) (omega arith) (λ z. stands (rw at z)) in
           rw at (omega (arith, cost-is (k / 32) (k % 32) (omega arith) (omega arith) e, cost-within (read .known) (k / 32) (k % 32) e))
+
+  -- the places of a lot's costs go by its word: where the last of m is the place of a cost with m - 1 before it, all m bits are set
+  pub offsets-packed : 0 < m → m ≤ 32 → Packed (offsetTable book) m
+  unfolding problemOf
+  offsets-packed some few = record { side-by-side = side-by-side }
+    where
+      side-by-side : (i l : ℕ) → i < 32 → l < m → 0 < entry (offsetTable book) i 0
+          → entry (offsetTable book) i (m - 1) ≡ entry (offsetTable book) i 0 + 4 * (m - 1)
+          → entry (offsetTable book) i l ≡ entry (offsetTable book) i 0 + 4 * l
+      side-by-side i l hi hl first last = by-cases (ℕ-discrete l (m - 1))
+          (λ (e : l ≡ m - 1). rw e last)
+          (λ ne. let h : l < m - 1 = omega arith in
+          omega (
+            arith,
+            start-is,
+            place l (omega arith),
+            counted-of (bit word l) (at l) (rw (bit-of-full word (m - 1) full l h) tt),
+            ones-below-full word (m - 1) full l (omega arith),
+          ))
+        where
+          word : ℕ
+          word = rowWord (rowAt book i)
+
+          at : ℕ → ℕ
+          at j = rowStart book i + 4 + 4 * onesBelow word j
+
+          place : (j : ℕ) → j < 32 → entry (offsetTable book) i j ≡ cond (bit word j) (at j) 0
+          place j hj = entry-is book i j hi hj
+              ∙ offset-row book (read .is-readable) i j (eligible-at i 0 hi (omega arith) (λ z. omega arith) .0)
+
+          -- a place above 0 is that of a set bit
+          stands : (j : ℕ) → j < 32 → 0 < entry (offsetTable book) i j → entry (offsetTable book) i j ≡ at j
+          stands j hj h = place j hj ∙ counted-of (bit word j) (at j) (counted-says (bit word j) (at j) (rw (place j hj) at h))
+
+          start-is : entry (offsetTable book) i 0 ≡ rowStart book i + 4
+          start-is = omega (arith, stands 0 (omega arith) first, ones-below-none word)
+
+          full : onesBelow word (m - 1) ≡ m - 1
+          full = omega (arith, start-is, stands (m - 1) (omega arith) (omega (arith, last, first)), last)
 
   pub problem-same : Same (problemBy book (offsetTable book) n m) (problemOf book)
   unfolding problemOf

@@ -3,7 +3,7 @@
 use mathlib.Core.Path.{_≡_}
 use mathlib.Core.Bool.{Bool, cond, not, _&&_}
 use mathlib.Core.List.{List}
-use Prim.Native.Nat.{ℕ, _+_, _*_, _/_, _%_, _≤_, _<_}
+use Prim.Native.Nat.{ℕ, _+_, _*_, _-_, _/_, _%_, _≤_, _<_}
 use lib.Dec.{ltb, eqb}
 use lib.ListN.{length, getD}
 use Rattle.transport.specs.Problem.{Problem}
@@ -31,6 +31,11 @@ problemBy book table n m = record {
 pub record Tabled (book table : List ℕ) : Type 0 where
   pub within : (k : ℕ) → k < 1024 → getD table k 0 + 4 ≤ length book
   pub cheap : (k : ℕ) → k < 1024 → (getD table k 0 ≡ 0 → ⊥) → u32At book (getD table k 0) ≤ costLimit
+
+-- a lot whose first and last costs of m lie as far apart as m costs side by side has them side by side
+pub record Packed (table : List ℕ) (m : ℕ) : Type 0 where
+  pub side-by-side : (i l : ℕ) → i < 32 → l < m → 0 < entry table i 0 → entry table i (m - 1) ≡ entry table i 0 + 4 * (m - 1)
+      → entry table i l ≡ entry table i 0 + 4 * l
 
 -- a pair that the table has an entry for
 pub record CanRead (book table : List ℕ) (i j : ℕ) : Type 0 where

@@ -1,0 +1,72 @@
+-- The length of a readable book tells how many pairs are eligible: past the opening it has four bytes for each lot's word and four for
+-- each cost.
+use mathlib.Core.Path.{_≡_, refl, sym, _∙_, ap}
+use mathlib.Core.Bool.{Bool, true, false, cond}
+use mathlib.Core.List.{List}
+use Prim.Native.Nat.{ℕ, zero, suc, _+_, _*_, _-_, _<_}
+use native.Mathlib.Nat.{mod-eq-of-lt}
+use native.Mathlib.Numerals.{add-one}
+use native.Mathlib.Omega.{arith}
+use borrow.Author.Tests.{lt-ltb}
+use lib.Count.{ones}
+use lib.ListN.{length, length-drop}
+use Rattle.transport.specs.Problem.{sum}
+use Rattle.transport.specs.Finder.{size}
+use Rattle.transport.proofs.Laws.Sums.{sum-cong}
+use Rattle.transport.proofs.Finder.Same.{size-of-same}
+use Rattle.specification.specs.Book.{bit, rowWord, bookLots, bookCalls, rowAt, problemOf}
+use Rattle.book.specs.Pairs.{rowStart, onesBelow, offsetTable}
+use Rattle.book.specs.Table.{problemBy}
+use Rattle.book.proofs.Bits.{ones-below-none, ones-below-set, ones-below-unset}
+use Rattle.book.proofs.Readable.{Read}
+use Rattle.book.proofs.Rows.{row-is, start-next, row-inside}
+use Rattle.book.proofs.Tables.{problem-same}
+
+-- the set bits below bit c, one by one
+bits-sum : (word c : ℕ) → sum c (λ j. cond (bit word j) 1 0) ≡ onesBelow word c
+unfolding sum
+bits-sum word zero = sym (ones-below-none word)
+bits-sum word (suc c) = rw (bits-sum word c, ← add-one c) (go (bit word c) refl)
+  where
+    go : (b : Bool) → bit word c ≡ b → onesBelow word c + cond b 1 0 ≡ onesBelow word (c + 1)
+    go true e = sym (ones-below-set word c e)
+    go false e = omega (arith, ones-below-unset word c e)
+
+module _ (book : List ℕ) where
+  starts : (i : ℕ) → rowStart book i ≡ 7 + 4 * i + 4 * sum i (λ k. ones (rowWord (rowAt book k)))
+  unfolding rowStart sum
+  starts zero = refl
+  starts (suc i) = omega (arith, starts i)
+
+  module _ {n m : ℕ} (read : Read book n m) where
+    row-sum : (i : ℕ) → i < bookLots book
+        → ones (rowWord (rowAt book i)) ≡ sum (bookCalls book) (λ j. cond (problemOf book .admits i j) 1 0)
+    unfolding problemOf
+    row-sum i hi =
+        let word = rowWord (rowAt book i) in
+        sym (sum-cong (bookCalls book) _ _ (λ j hj. rw (lt-ltb i (bookLots book) hi, lt-ltb j (bookCalls book) hj))
+        ∙ bits-sum word (bookCalls book) ∙ ap ones (mod-eq-of-lt (read .known .row i hi .word-below)))
+
+    ends : length book ≡ rowStart book (bookLots book)
+    ends =
+        let last = bookLots book - 1 in
+        let next : last + 1 ≡ bookLots book = omega (arith, read .known .lots-within) in
+        omega (
+          arith,
+          row-inside (read .known) last (omega (arith, read .known .lots-within)),
+          rw next at (start-next book last),
+          read .known .ends,
+          ap length (row-is book (bookLots book)),
+          length-drop (rowStart book (bookLots book)) book,
+        )
+
+    pub book-counted : length book ≡ 7 + 4 * n + 4 * size (problemBy book (offsetTable book) n m)
+    unfolding problemOf
+    book-counted = omega (
+      arith,
+      ends,
+      starts (bookLots book),
+      sum-cong (bookLots book) _ _ row-sum,
+      size-of-same (problem-same book read),
+      read .lots-is,
+    )
