@@ -1,30 +1,32 @@
--- What the parts of the check say together. Pairs that pass 9 and 10, none missing, are an order of the eligible pairs
+-- What the parts of the check say together. Pairs that pass 9 and 10, as many as are eligible, are an order of the eligible pairs
 -- (`order-of-pairs`). Of such an order the walk by least gaps finds the lowest place that fails, and the scan of that place says what the
--- specification says of the whole (`settled-whole`, `settled-at`). The array of places tells whether a pair is missing (`complete-is`).
+-- specification says of the whole (`settled-whole`, `settled-at`).
 use mathlib.Core.Path.{_≡_, refl, sym, _∙_, ap, subst}
-use mathlib.Core.Bool.{Bool, true, false, cond}
+use mathlib.Core.Logic.{by-cases}
+use mathlib.Core.Bool.{true, false}
 use mathlib.Core.List.{List, []}
-use Prim.Native.Nat.{ℕ, _≤_, _<_}
+use Prim.Native.Nat.{ℕ, zero, suc, _+_, _*_, _-_, _≤_, _<_}
 use native.Mathlib.Nat.{sub-zero}
+use native.Mathlib.Decide.{decLt}
 use native.Mathlib.Omega.{arith}
-use lib.Dec.{T, ltb, ltb→lt, lt→ltb}
-use lib.ListN.{drop}
+use lib.Dec.{T, ltb→lt, lt→ltb}
+use lib.ListN.{length, drop}
 use Rattle.transport.specs.Problem.{Problem, Eligible}
 use Rattle.transport.specs.Greedy.{Pair, pair}
 use Rattle.transport.specs.Order.{times, OrderOf}
-use Rattle.transport.specs.Finder.{every}
-use Rattle.transport.proofs.Laws.Tests.{T-true, same-of-eq}
-use Rattle.transport.proofs.Laws.Searches.{every-same}
-use Rattle.transport.proofs.Orders.Lists.{lists-of-order}
+use Rattle.transport.specs.Finder.{size}
+use Rattle.transport.proofs.Laws.Tests.{T-true, T-false, same-of-eq}
+use Rattle.transport.proofs.Orders.Lists.{Lists, lists-of-order}
+use Rattle.transport.proofs.Orders.Length.{order-length, full-misses-none}
 use Rattle.specification.specs.Reply.{gives, refuses}
 use Rattle.specification.specs.OrderFile.{pairs}
 use Rattle.specification.specs.Check.{checkPairs, checkMonge, complete, inTurn}
 use Rattle.specification.proofs.Holding.{holding-exactly, complete-exactly, order-if-all-stand}
-use Rattle.book.specs.Table.{admitsBy, problemBy}
-use Rattle.order.specs.Places.{orderPair, rest, metAt, Shows}
+use Rattle.book.specs.Table.{problemBy}
+use Rattle.order.specs.Places.{orderPair, rest, metAt}
 use Rattle.order.specs.Asked.{Walkable, CanScan, CanSettle}
 use Rattle.files.specs.Files.{statedStep}
-use Rattle.order.specs.Answers.{presentIn, LowestNotFree, Walked, quadrupleAt, countAfter, checkedPairs}
+use Rattle.order.specs.Answers.{LowestNotFree, Walked, quadrupleAt, countAfter, checkedPairs}
 use Rattle.specification.specs.declared.Refusal.{Refusal}
 use Rattle.files.specs.declared.Step.{Step}
 use Rattle.files.specs.declared.Step.the-variants.{Passes, Refused}
@@ -36,12 +38,31 @@ use Rattle.order.proofs.Replies.{goes-on, stops}
 pub rest-whole : (order : List ℕ) (count : ℕ) → rest order count 0 ≡ pairs count (drop 7 order)
 rest-whole order count = rw (sub-zero count)
 
--- pairs that pass 9 and 10, and of which none is missing, are an order of the eligible pairs
-pub order-of-pairs : (book table : List ℕ) (n m : ℕ) (S : List Pair) → checkPairs (problemBy book table n m) [] 0 S ≡ gives tt
-    → complete (problemBy book table n m) S ≡ true → OrderOf (problemBy book table n m) S
-order-of-pairs book table n m S passed full =
-    let P = problemBy book table n m in
-    order-if-all-stand P S (holding-exactly P (inside-table book table n m) S .0 passed) (complete-exactly P S .0 (rw full tt))
+pairs-length : (n : ℕ) (s : List ℕ) → length (pairs n s) ≡ n
+unfolding pairs
+pairs-length zero s = refl
+pairs-length (suc n) s = ap suc (pairs-length n (drop 2 s))
+
+pub rest-length : (order : List ℕ) (count : ℕ) → length (rest order count 0) ≡ count
+rest-length order count = pairs-length (count - 0) (drop (7 + 2 * 0) order) ∙ sub-zero count
+
+-- of pairs that pass 9 and 10 one is missing exactly where fewer are listed than are eligible; and else they are an order
+module _ (book table : List ℕ) (n m : ℕ) (S : List Pair) (passed : checkPairs (problemBy book table n m) [] 0 S ≡ gives tt) where
+  abbrev P : Problem
+  P = problemBy book table n m
+
+  lists : Lists P S
+  lists = holding-exactly P (inside-table book table n m) S .0 passed
+
+  pub some-missing : length S < size P → complete P S ≡ false
+  some-missing h = T-false (complete P S) (λ t. omega (arith, order-length (order-if-all-stand P S lists (complete-exactly P S .0 t))))
+
+  pub none-missing : size P ≤ length S → complete P S ≡ true
+  none-missing h = T-true (complete P S) (complete-exactly P S .1 (λ i j e. by-cases (decLt 0 (times i j S)) (λ stands. stands)
+      (λ never. absurd (full-misses-none lists h i j e (omega arith)))))
+
+  pub order-of-pairs : size P ≤ length S → OrderOf P S
+  order-of-pairs h = order-if-all-stand P S lists (complete-exactly P S .0 (rw (none-missing h) tt))
 
 -- each pair of such an order is eligible, so it can be walked and scanned
 module _ (book table places order : List ℕ) (count n m : ℕ) (s : CanSettle book table places order count n m) where
@@ -53,15 +74,15 @@ module _ (book table places order : List ℕ) (count n m : ℕ) (s : CanSettle b
       (subst T (sym (met-later order count count 0 i j (omega arith)))
       (lt→ltb 0 (metAt order count i j) (omega (arith, met-late order count count i j p h (same-of-eq i j (orderPair order p) refl refl))))))
 
-  pub walkable : Walkable book table places order count n
+  pub walkable : Walkable book table order count m
   walkable = record {
     tabled = s .tabled;
-    few-lots = s .sized .few-lots;
+    packed = s .packed;
+    few-calls = s .sized .few-calls;
     order-long = s .sized .order-long;
-    lot-in = λ p h. eligible-at p h .0;
-    call-in = λ p h. omega (arith, eligible-at p h .1, s .sized .few-calls);
+    lot-in = λ p h. omega (arith, eligible-at p h .0, s .sized .few-lots);
+    call-in = λ p h. eligible-at p h .1;
     in-table = λ p h. admitted-in table n m (orderPair order p .lot) (orderPair order p .call) (T-true _ (eligible-at p h .2)) .2;
-    shows = s .shows;
   }
 
   -- the quadruples of one of its pairs
@@ -78,9 +99,9 @@ module _ (book table places order : List ℕ) (count n m : ℕ) (s : CanSettle b
       }
 
   -- where no place fails there is nothing to refuse, and else the scan of the lowest that does names the failure
-  module _ (r : ℕ) (walked : Walked book table order count n r) where
+  module _ (r : ℕ) (walked : Walked book table order count m r) where
     pub lowest : LowestNotFree (problemBy book table n m) order count 0 r
-    lowest = walked m (s .sized .few-calls) (s .each-once)
+    lowest = walked n (s .sized .few-lots) (s .each-once)
 
     pub settled-whole : r ≡ count → checkMonge (problemBy book table n m) (rest order count 0) ≡ gives tt
     settled-whole = nothing-fails (problemBy book table n m) (inside-table book table n m) order count (lists-of-order (s .each-once)) r lowest
@@ -92,13 +113,6 @@ module _ (book table places order : List ℕ) (count n m : ℕ) (s : CanSettle b
         first-failure (problemBy book table n m) (inside-table book table n m) order count (lists-of-order (s .each-once)) r lowest h found
         (says ∙ quadruples-by-array book table places order count n m (s .sized .few-lots) (s .sized .few-calls) (s .shows)
         r h (eligible-at r h .0) (eligible-at r h .1) i j lot-is call-is)
-
--- the array of places tells whether a pair is missing
-pub complete-is : (book table places order : List ℕ) (count n m : ℕ) → n ≤ 32 → m ≤ 32 → Shows 32 32 places (metAt order count)
-    → every n (λ i. every m (λ j. presentIn table places n m i j)) ≡ complete (problemBy book table n m) (rest order count 0)
-complete-is book table places order count n m few few′ shows =
-    every-same n _ _ (λ i hi. every-same m _ _ (λ j hj. ap (λ (b : Bool). cond (admitsBy table n m i j) b true)
-    (ap (ltb 0) (shows .at i j (omega arith) (omega arith)) ∙ sym (met-later order count count 0 i j (omega arith)))))
 
 -- the answers of the whole check: refused at a pair, with a pair missing, or settled
 module _ (P : Problem) (S : List Pair) (count : ℕ) (v : Step) (says : statedStep v ≡ checkPairs P [] 0 S) where

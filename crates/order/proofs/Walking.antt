@@ -1,31 +1,37 @@
--- One turn of the walk by least gaps. The pairs in play after the pairs from a place on are those that stand from it on, which the array
--- of places tells: so no array of pairs in play is kept. The turn lowers the least gaps to those of the pairs from its place on, and says
--- whether its pair is free against them.
+-- One turn of the walk by least gaps. The pairs in play are those with a mark, which stand from the turn's place on. The turn lowers the
+-- least gaps to those of the pairs from its place on, and says whether its pair is free against them.
 use mathlib.Core.Path.{_≡_, refl, sym, _∙_, ap}
 use mathlib.Core.Logic.{by-cases}
-use mathlib.Core.Bool.{Bool, true, false, cond}
+use mathlib.Core.Bool.{Bool, true, false, cond, _||_}
 use mathlib.Core.List.{List, _∷_}
-use Prim.Native.Nat.{ℕ, suc, _+_, _-_, _≤_, _<_}
+use Prim.Native.Nat.{ℕ, suc, _+_, _*_, _≤_, _<_}
 use native.Mathlib.Decide.{ℕ-discrete}
 use native.Mathlib.Omega.{arith}
-use lib.Dec.{ltb}
-use lib.ListN.{replicate}
+use lib.Dec.{ltb, eqb}
+use lib.ListN.{set, replicate}
 use Rattle.transport.specs.Problem.{Problem}
 use Rattle.transport.specs.Greedy.{Pair}
-use Rattle.transport.specs.Order.{OrderOf}
+use Rattle.transport.specs.Order.{times, OrderOf}
+use Rattle.transport.proofs.Laws.Tests.{same}
 use Rattle.transport.proofs.Laws.Sets.{withPair}
 use Rattle.transport.proofs.Orders.Lists.{Lists, lists-of-order, lists-head}
-use Rattle.transport.proofs.Finder.Standing.{standing}
-use Rattle.transport.proofs.Finder.Gaps.{leastAt, least-at-same}
-use Rattle.transport.proofs.Finder.Backward.{backward, lowered, in-play-stands, verdict-is-free}
+use Rattle.transport.proofs.Finder.Standing.{standing, standing-cons}
+use Rattle.transport.proofs.Finder.Gaps.{least-at-same}
+use Rattle.transport.proofs.Finder.Exchanged.{exchanged, across}
+use Rattle.transport.proofs.Finder.Backward.{backward, lowered, leastFor, in-play-stands, verdict-is-free}
 use Rattle.specification.specs.Book.{costLimit}
 use Rattle.book.specs.Table.{entry, problemBy}
-use Rattle.order.specs.Places.{orderPair, rest, Shows}
+use Rattle.order.specs.Places.{orderPair, rest, marks, Shows, Capped}
 use Rattle.order.specs.Asked.{Walkable}
 use Rattle.order.specs.Answers.{PairEntered, freeAt, LowestNotFree}
 use Rattle.order.proofs.Eligibles.{bounded}
-use Rattle.order.proofs.Arrays.{shows-all}
-use Rattle.order.proofs.Placing.{rest-more, rest-none, met-later, lists-from}
+use Rattle.order.proofs.Arrays.{shows-all, shows-set, shows-same, capped-all}
+use Rattle.order.proofs.Placing.{rest-more, rest-none, lists-from}
+
+-- a mark stands for the test
+mark-says : (b : Bool) → ltb 0 (cond b 1 0) ≡ b
+mark-says true = refl
+mark-says false = refl
 
 -- the lowest place that fails, with one place more in front
 module _ {P : Problem} {order : List ℕ} {count p : ℕ} where
@@ -41,7 +47,7 @@ module _ {P : Problem} {order : List ℕ} {count p : ℕ} where
   lowest-here : p < count → freeAt P order count p ≡ false → LowestNotFree P order count p p
   lowest-here h e = record { within = omega arith; free-before = λ q low high. absurd (omega arith); not-free = λ _. e }
 
-module _ (book table places order : List ℕ) (count n m : ℕ) (w : Walkable book table places order count n) (few-calls : m ≤ 32)
+module _ (book table order : List ℕ) (count n m : ℕ) (w : Walkable book table order count m) (few-lots : n ≤ 32)
     (each-once : OrderOf (problemBy book table n m) (rest order count 0)) (p : ℕ) (h : p < count) where
   abbrev P : Problem
   P = problemBy book table n m
@@ -54,64 +60,95 @@ module _ (book table places order : List ℕ) (count n m : ℕ) (w : Walkable bo
   unfolding backward
   turn-gaps = rw (rest-more order count p h)
 
-  -- what is in play in the pair's turn, by the array
-  in-play-is : (k : ℕ) → k < n → ltb p (entry places k (orderPair order p .call))
-      ≡ withPair (backward P costLimit (rest order count (p + 1)) .inPlay) (orderPair order p) k (orderPair order p .call)
-  unfolding backward
-  in-play-is k hk =
-      ap (ltb p) (w .shows .at k (orderPair order p .call) (omega (arith, w .few-lots)) (w .call-in p h))
-      ∙ sym (met-later order count (count - p) p k (orderPair order p .call) (omega arith))
-      ∙ ap (λ (S : List Pair). standing S k (orderPair order p .call)) (rest-more order count p h)
-      ∙ sym (in-play-stands P costLimit (orderPair order p ∷ rest order count (p + 1)) k (orderPair order p .call))
+  module _ (later : List ℕ) (marked : Shows 32 32 later (marks (rest order count p))) where
+    -- what is in play in the pair's turn, by the marks
+    in-play-is : (l : ℕ) → l < m → ltb 0 (entry later (orderPair order p .lot) l)
+        ≡ withPair (backward P costLimit (rest order count (p + 1)) .inPlay) (orderPair order p) (orderPair order p .lot) l
+    unfolding backward
+    in-play-is l hl =
+        ap (ltb 0) (marked .at (orderPair order p .lot) l (w .lot-in p h) (omega (arith, w .few-calls)))
+        ∙ mark-says (standing (rest order count p) (orderPair order p .lot) l)
+        ∙ ap (λ (S : List Pair). standing S (orderPair order p .lot) l) (rest-more order count p h)
+        ∙ sym (in-play-stands P costLimit (orderPair order p ∷ rest order count (p + 1)) (orderPair order p .lot) l)
 
-  turn-free : leastAt P costLimit (λ k l. ltb p (entry places k l))
-      (lowered P costLimit (backward P costLimit (rest order count (p + 1)) .gaps) (orderPair order p) (orderPair order p .lot))
-      (orderPair order p .lot) (orderPair order p .call)
-      ≡ freeAt P order count p
-  turn-free = rw (rest-more order count p h)
-      (least-at-same P costLimit (λ k l. ltb p (entry places k l))
-      (withPair (backward P costLimit (rest order count (p + 1)) .inPlay) (orderPair order p))
-      (lowered P costLimit (backward P costLimit (rest order count (p + 1)) .gaps) (orderPair order p) (orderPair order p .lot)) _
-      (orderPair order p .lot) (orderPair order p .call) in-play-is (λ k hk. refl)
-      ∙ verdict-is-free P costLimit (bounded book table n m (w .few-lots) few-calls (w .tabled)) (orderPair order p) _ lists)
+    turn-free : leastFor P costLimit (λ k l. ltb 0 (entry later k l))
+        (lowered P costLimit (backward P costLimit (rest order count (p + 1)) .gaps) (orderPair order p) (orderPair order p .call))
+        (orderPair order p)
+        ≡ freeAt P order count p
+    turn-free = rw (rest-more order count p h)
+        (least-at-same (exchanged P) costLimit (across (λ k l. ltb 0 (entry later k l)))
+        (across (withPair (backward P costLimit (rest order count (p + 1)) .inPlay) (orderPair order p)))
+        (lowered P costLimit (backward P costLimit (rest order count (p + 1)) .gaps) (orderPair order p) (orderPair order p .call)) _
+        (orderPair order p .call) (orderPair order p .lot) in-play-is (λ l hl. refl)
+        ∙ verdict-is-free P costLimit (bounded book table n m few-lots (w .few-calls) (w .tabled)) (orderPair order p) _ lists)
 
--- the array holds the least gaps of the pairs from p on, and the answer is the lowest place from p on that fails
-abbrev pub WalkedFrom : (book table order : List ℕ) (count n p : ℕ) (least : List ℕ) (lowest : ℕ) → Type 0
-WalkedFrom book table order count n p least lowest =
-    (m : ℕ) → m ≤ 32 → OrderOf (problemBy book table n m) (rest order count 0)
-    → Shows n n least (backward (problemBy book table n m) costLimit (rest order count p) .gaps)
-    × LowestNotFree (problemBy book table n m) order count p lowest
+-- the pair at p is marked, `next` being the place after it
+marked-too : (s t : Bool) → _≡_ {A = ℕ} (cond t 1 (cond s 1 0)) (cond (s || t) 1 0)
+marked-too true true = refl
+marked-too true false = refl
+marked-too false true = refl
+marked-too false false = refl
+
+pub walk-marks : (order : List ℕ) (count p : ℕ) → p < count → (next : ℕ) → next ≡ p + 1 → (i j : ℕ) → i ≡ orderPair order p .lot
+    → j ≡ orderPair order p .call → i < 32 → j < 32 → (later : List ℕ) → Shows 32 32 later (marks (rest order count next))
+    → Shows 32 32 (set later (32 * i + j) 1) (marks (rest order count p))
+walk-marks order count p h next next-is i j lot-is call-is hi hj later shows =
+    rw (rest-more order count p h, ← next-is, lot-is, call-is)
+    (shows-same (shows-set (omega arith) (omega arith) shows (orderPair order p) 1 (omega arith) (omega arith)) (λ a b ha hb.
+    marked-too (standing (rest order count next) a b) (same a b (orderPair order p))
+    ∙ ap (λ (t : Bool). cond t 1 0) (sym (standing-cons (orderPair order p) (rest order count next) a b))))
+
+-- the marks are those of the pairs from p on, the array holds their least gaps, and the answer is the lowest place from p on that fails
+pub record WalkedFrom (book table order : List ℕ) (count m p : ℕ) (later least : List ℕ) (lowest : ℕ) : Type 0 where
+  pub marked : Shows 32 32 later (marks (rest order count p))
+  pub capped : Capped least
+  pub walked : (n : ℕ) → n ≤ 32 → OrderOf (problemBy book table n m) (rest order count 0)
+      → Shows m m least (backward (problemBy book table n m) costLimit (rest order count p) .gaps)
+      × LowestNotFree (problemBy book table n m) order count p lowest
 
 -- before the first turn nothing is in play
-pub walked-none : (book table order : List ℕ) (count n : ℕ) → n ≤ 32
-    → WalkedFrom book table order count n count (replicate 1024 (suc (costLimit + costLimit))) count
-unfolding backward
-walked-none book table order count n few m few-calls each-once = (
-  rw (rest-none order count) (shows-all few few (suc (costLimit + costLimit))),
-  record { within = omega arith; free-before = λ q low high. absurd (omega arith); not-free = λ h. absurd (omega arith) },
-)
+pub walked-none : (book table order : List ℕ) (count m : ℕ) → m ≤ 32
+    → WalkedFrom book table order count m count (replicate 1024 0) (replicate 1024 (suc (costLimit + costLimit))) count
+unfolding backward times
+walked-none book table order count m few = record {
+  marked = rw (rest-none order count) (shows-all (omega arith) (omega arith) 0);
+  capped = capped-all;
+  walked = λ n few-lots each-once. (
+    rw (rest-none order count) (shows-all few few (suc (costLimit + costLimit))),
+    record { within = omega arith; free-before = λ q low high. absurd (omega arith); not-free = λ h. absurd (omega arith) },
+  );
+}
 
--- the whole turn of the pair (i, j) at p, `next` being the place after it
-module _ (book table places order : List ℕ) (count n : ℕ) (w : Walkable book table places order count n)
+-- the whole turn of the pair (i, j) at p, once it is marked
+module _ (book table order : List ℕ) (count m : ℕ) (w : Walkable book table order count m)
     (p : ℕ) (h : p < count) (next : ℕ) (next-is : next ≡ p + 1) (i j : ℕ) (lot-is : i ≡ orderPair order p .lot)
-    (call-is : j ≡ orderPair order p .call) (least later : List ℕ) (r : Bool) (lowest : ℕ)
-    (enters : (m : ℕ) (gaps : ℕ → ℕ → ℕ) → j < m → Shows n n least gaps → PairEntered book table places n i j p r later m gaps)
-    (so-far : WalkedFrom book table order count n next least lowest) where
-  module _ (m : ℕ) (few-calls : m ≤ 32) (each-once : OrderOf (problemBy book table n m) (rest order count 0)) where
-    entered : PairEntered book table places n i j p r later m (backward (problemBy book table n m) costLimit (rest order count (p + 1)) .gaps)
-    entered = enters m _ (rw call-is (lists-head (lists book table places order count n m w few-calls each-once p h) .1))
-        (rw next-is at (so-far m few-calls each-once .0))
+    (call-is : j ≡ orderPair order p .call) (before later : List ℕ) (marked : Shows 32 32 later (marks (rest order count p)))
+    (least after : List ℕ) (r lowest : ℕ)
+    (entered : PairEntered book table later m i j least r after) (so-far : WalkedFrom book table order count m next before least lowest) where
+  module _ (n : ℕ) (few-lots : n ≤ 32) (each-once : OrderOf (problemBy book table n m) (rest order count 0)) where
+    lot-in : i < n
+    lot-in = rw lot-is (lists-head (lists book table order count n m w few-lots each-once p h) .0)
 
-    gaps-are : Shows n n later (backward (problemBy book table n m) costLimit (rest order count p) .gaps)
-    gaps-are = rw (← turn-gaps book table places order count n m w few-calls each-once p h, ← lot-is, ← call-is) (entered .shows)
+    shown : Shows m m least (backward (problemBy book table n m) costLimit (rest order count (p + 1)) .gaps)
+    shown = rw next-is at (so-far .walked n few-lots each-once .0)
 
-    free-is : r ≡ freeAt (problemBy book table n m) order count p
-    free-is = rw (lot-is, call-is) at (entered .says) ∙ turn-free book table places order count n m w few-calls each-once p h
+    gaps-are : Shows m m after (backward (problemBy book table n m) costLimit (rest order count p) .gaps)
+    gaps-are = rw (← turn-gaps book table order count n m w few-lots each-once p h, ← lot-is, ← call-is)
+        (entered .shows n _ lot-in shown)
 
-  pub walk-turn : (b : Bool) → r ≡ b → WalkedFrom book table order count n p later (cond b lowest p)
-  walk-turn b e m few-calls each-once = (gaps-are m few-calls each-once, go b (sym (free-is m few-calls each-once) ∙ e))
-    where
-      go : (b : Bool) → freeAt (problemBy book table n m) order count p ≡ b
-          → LowestNotFree (problemBy book table n m) order count p (cond b lowest p)
-      go true e = lowest-before next-is e (so-far m few-calls each-once .1)
-      go false e = lowest-here h e
+    free-is : eqb r 0 ≡ freeAt (problemBy book table n m) order count p
+    free-is = rw (lot-is, call-is) at (entered .says n _ lot-in shown)
+        ∙ turn-free book table order count n m w few-lots each-once p h later marked
+
+    lowest-is : (b : Bool) → freeAt (problemBy book table n m) order count p ≡ b
+        → LowestNotFree (problemBy book table n m) order count p (cond b lowest p)
+    lowest-is true e = lowest-before next-is e (so-far .walked n few-lots each-once .1)
+    lowest-is false e = lowest-here h e
+
+  pub walk-turn : (b : Bool) → eqb r 0 ≡ b → WalkedFrom book table order count m p later after (cond b lowest p)
+  walk-turn b e = record {
+    marked = marked;
+    capped = entered .capped;
+    walked = λ n few-lots each-once.
+        (gaps-are n few-lots each-once, lowest-is n few-lots each-once b (sym (free-is n few-lots each-once) ∙ e));
+  }

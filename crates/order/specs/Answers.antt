@@ -1,23 +1,22 @@
 -- What the answers of this crate say in document 01's own terms.
 use mathlib.Core.List.{List, [], _∷_}
 use mathlib.Core.Path.{_≡_}
-use mathlib.Core.Bool.{Bool, true, false, cond, not, _&&_, _||_}
+use mathlib.Core.Bool.{Bool, true, false, cond, not, _&&_}
 use Prim.Native.Nat.{ℕ, _+_, _*_, _≤_, _<_, min}
-use lib.Dec.{ltb, leb}
+use lib.Dec.{ltb, eqb}
 use lib.ListN.{set}
 use Rattle.transport.specs.Greedy.{Pair, pair}
 use Rattle.transport.specs.Problem.{Problem}
 use Rattle.transport.specs.Order.{OrderOf}
 use Rattle.transport.specs.Finder.{free}
 use Rattle.transport.proofs.Finder.Standing.{standing}
-use Rattle.transport.proofs.Finder.Gaps.{leastAt}
-use Rattle.transport.proofs.Finder.Backward.{lowered}
+use Rattle.transport.proofs.Finder.Backward.{lowered, leastFor}
 use Rattle.specification.specs.Book.{costLimit}
 use Rattle.specification.specs.Reply.{Reply, gives, refuses, refuseIf, _>>=_}
 use Rattle.specification.specs.Check.{checkQuadruple, checkPairs, complete, checkMonge}
 use Rattle.files.specs.Files.{statedStep}
 use Rattle.book.specs.Table.{entry, admitsBy, problemBy}
-use Rattle.order.specs.Places.{orderPair, rest, metAt, tableGap, Shows}
+use Rattle.order.specs.Places.{orderPair, rest, metAt, Shows, Capped}
 use Rattle.order.specs.declared.scan.Quadruple.{Quadruple}
 use Rattle.order.specs.declared.scan.Quadruple.the-variants.{Holds, NotEligible, TooHigh}
 use Rattle.files.specs.declared.Step.{Step}
@@ -34,10 +33,6 @@ Tested book table i j k l r =
     (n m : ℕ) → k < n → l < m
     → statedQuadruple (pair i j) k l r ≡ checkQuadruple (problemBy book table n m) (pair i j) k l
 
--- a pair is not eligible, or has a place
-abbrev pub presentIn : List ℕ → List ℕ → ℕ → ℕ → ℕ → ℕ → Bool
-presentIn table places n m i j = cond (admitsBy table n m i j) (ltb 0 (entry places i j)) true
-
 -- one pair of an order, at a place: 9, then 10, and else one more than its place is noted
 pub record Met (table : List ℕ) (n m i j place : ℕ) (places : List ℕ) (r : Step) (later : List ℕ) : Type 0 where
   pub says : statedStep r ≡ (refuseIf (not (admitsBy table n m i j)) 9 (place ∷ [])
@@ -50,17 +45,20 @@ pub record PlacesFilled (table order : List ℕ) (count n m : ℕ) (r : Step) (p
   pub says : (book : List ℕ) → statedStep r ≡ checkPairs (problemBy book table n m) [] 0 (rest order count 0)
   pub shows : r ≡ Passes → Shows 32 32 places (metAt order count)
 
--- lot k in the turn of the pair (i, j), which stands at a place: the least gap of i over k is lowered to that at j,
--- and the answer is whether (k, j) stands earlier or the gap at j is now the least
-pub record GapLowered (book table places : List ℕ) (i j k place : ℕ) (least : List ℕ) (r : Bool) (later : List ℕ) : Type 0 where
-  pub lowers : later ≡ set least (32 * i + k) (min (entry least i k) (tableGap book table i k j))
-  pub says : r ≡ (not (ltb place (entry places k j)) || leb (tableGap book table i k j) (min (entry least i k) (tableGap book table i k j)))
+-- the least gap of call j over call l is lowered to a new one; the answer is the mark of (i, l) where it was lower already, and else 0
+pub record GapLowered (later : List ℕ) (i j l new : ℕ) (least : List ℕ) (r : ℕ) (after : List ℕ) : Type 0 where
+  pub lowers : after ≡ set least (32 * j + l) (min (entry least j l) new)
+  pub says : r ≡ cond (ltb (entry least j l) new) (entry later i l) 0
 
--- the whole turn of a pair, for every count of calls above j and all least gaps that the array shows
-pub record PairEntered (book table places : List ℕ) (n i j place : ℕ) (r : Bool) (later : List ℕ) (m : ℕ) (gaps : ℕ → ℕ → ℕ) : Type 0 where
-  pub shows : Shows n n later (lowered (problemBy book table n m) costLimit gaps (pair i j))
-  pub says : r ≡ leastAt (problemBy book table n m) costLimit (λ k l. ltb place (entry places k l))
-      (lowered (problemBy book table n m) costLimit gaps (pair i j) i) i j
+-- the whole turn of the pair (i, j), for every count of lots above i and all least gaps that the array shows: they are lowered to the
+-- pair's, and the answer is 0 exactly where the pair's are the least at each call l with a mark at (i, l)
+pub record PairEntered (book table later : List ℕ) (m i j : ℕ) (least : List ℕ) (r : ℕ) (after : List ℕ) : Type 0 where
+  pub capped : Capped after
+  pub shows : (n : ℕ) (gaps : ℕ → ℕ → ℕ) → i < n → Shows m m least gaps
+      → Shows m m after (lowered (problemBy book table n m) costLimit gaps (pair i j))
+  pub says : (n : ℕ) (gaps : ℕ → ℕ → ℕ) → i < n → Shows m m least gaps
+      → eqb r 0 ≡ leastFor (problemBy book table n m) costLimit (λ k l. ltb 0 (entry later k l))
+      (lowered (problemBy book table n m) costLimit gaps (pair i j) j) (pair i j)
 
 -- whether the pair at a place of an order is free against the pairs that stand there or later
 abbrev pub freeAt : Problem → List ℕ → ℕ → ℕ → Bool
@@ -72,10 +70,10 @@ pub record LowestNotFree (P : Problem) (order : List ℕ) (count from r : ℕ) :
   pub free-before : (p : ℕ) → from ≤ p → p < r → freeAt P order count p ≡ true
   pub not-free : r < count → freeAt P order count r ≡ false
 
--- for every count of calls with which the pairs are an order of the eligible pairs: the answer of the walk by least gaps
+-- for every count of lots with which the pairs are an order of the eligible pairs: the answer of the walk by least gaps
 abbrev pub Walked : List ℕ → List ℕ → List ℕ → ℕ → ℕ → ℕ → Type 0
-Walked book table order count n r =
-    (m : ℕ) → m ≤ 32 → OrderOf (problemBy book table n m) (rest order count 0) → LowestNotFree (problemBy book table n m) order count 0 r
+Walked book table order count m r =
+    (n : ℕ) → n ≤ 32 → OrderOf (problemBy book table n m) (rest order count 0) → LowestNotFree (problemBy book table n m) order count 0 r
 
 -- a quadruple of the pair p, which stands at a place, with lot k and call l: tested where (i, l) stands later
 abbrev pub callAt : List ℕ → List ℕ → List ℕ → ℕ → ℕ → ℕ → Pair → ℕ → ℕ → Reply (Unit {0})

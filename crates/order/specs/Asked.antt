@@ -5,9 +5,10 @@ use Prim.Native.Nat.{ℕ, _+_, _*_, _≤_, _<_}
 use lib.ListN.{length}
 use Rattle.specification.specs.Bytes.{u32At}
 use Rattle.transport.specs.Order.{OrderOf}
+use Rattle.transport.specs.Finder.{size}
 use Rattle.specification.specs.Book.{costLimit}
-use Rattle.book.specs.Table.{entry, problemBy, Tabled, CanRead}
-use Rattle.order.specs.Places.{orderPair, rest, metAt, Shows}
+use Rattle.book.specs.Table.{entry, problemBy, Tabled, Packed}
+use Rattle.order.specs.Places.{orderPair, rest, metAt, Shows, Capped}
 
 -- a quadruple of the table's lots and calls
 pub record CanTest (book table : List ℕ) (i j k l : ℕ) : Type 0 where
@@ -24,29 +25,39 @@ pub record CanWalk (order : List ℕ) (count n m : ℕ) : Type 0 where
   pub few-lots : n ≤ 32
   pub few-calls : m ≤ 32
 
--- lot k in the turn of the eligible pair (i, j), whose cost is given
-pub record CanLower (book table : List ℕ) (i j k own : ℕ) : Type 0 where
-  pub readable : CanRead book table k j
+-- the costs of lot i, one for each of m calls, stand side by side from `start` on; or nothing is said, where that is 0
+pub record Started (table : List ℕ) (m i start : ℕ) : Type 0 where
+  pub from : 0 < start → (l : ℕ) → l < m → entry table i l ≡ start + 4 * l
+
+-- call l in the turn of the pair (i, j): its cost, the place of that of (i, l) or 0, costs within the limit, and the array of least gaps
+pub record CanLower (book : List ℕ) (own at i j l : ℕ) (least : List ℕ) : Type 0 where
+  pub within : at + 4 ≤ length book
+  pub cheap : (at ≡ 0 → ⊥) → u32At book at ≤ costLimit
+  pub own-cheap : own ≤ costLimit
   pub lot-in : i < 32
-  pub own-is : own ≡ u32At book (entry table i j)
-  pub cheap : own ≤ costLimit
+  pub call-in : j < 32
+  pub other-in : l < 32
+  pub capped : Capped least
 
--- the turn of the eligible pair (i, j) among n lots
-pub record CanEnter (book table : List ℕ) (n i j : ℕ) : Type 0 where
-  pub readable : CanRead book table i j
-  pub few-lots : n ≤ 32
-  pub in-table : entry table i j ≡ 0 → ⊥
-  pub lot-in : i < n
-
--- an order of eligible pairs among n lots, and the array of their places
-pub record Walkable (book table places order : List ℕ) (count n : ℕ) : Type 0 where
+-- the turn of the eligible pair (i, j) among m calls
+pub record CanEnter (book table : List ℕ) (m i j : ℕ) (least : List ℕ) : Type 0 where
   pub tabled : Tabled book table
-  pub few-lots : n ≤ 32
+  pub packed : Packed table m
+  pub few-calls : m ≤ 32
+  pub lot-in : i < 32
+  pub call-in : j < m
+  pub in-table : entry table i j ≡ 0 → ⊥
+  pub capped : Capped least
+
+-- an order of eligible pairs among m calls
+pub record Walkable (book table order : List ℕ) (count m : ℕ) : Type 0 where
+  pub tabled : Tabled book table
+  pub packed : Packed table m
+  pub few-calls : m ≤ 32
   pub order-long : 7 + 2 * count ≤ length order
-  pub lot-in : (p : ℕ) → p < count → orderPair order p .lot < n
-  pub call-in : (p : ℕ) → p < count → orderPair order p .call < 32
+  pub lot-in : (p : ℕ) → p < count → orderPair order p .lot < 32
+  pub call-in : (p : ℕ) → p < count → orderPair order p .call < m
   pub in-table : (p : ℕ) → p < count → entry table (orderPair order p .lot) (orderPair order p .call) ≡ 0 → ⊥
-  pub shows : Shows 32 32 places (metAt order count)
 
 -- the quadruples of the pair (i, j), which stands at a place, with lot k and each of m calls
 pub record CanScanLot (book table : List ℕ) (m place i j k : ℕ) : Type 0 where
@@ -69,6 +80,14 @@ pub record CanScan (book table : List ℕ) (n m place i j : ℕ) : Type 0 where
 -- an order of the eligible pairs, and the array of their places
 pub record CanSettle (book table places order : List ℕ) (count n m : ℕ) : Type 0 where
   pub tabled : Tabled book table
+  pub packed : Packed table m
   pub sized : CanWalk order count n m
   pub each-once : OrderOf (problemBy book table n m) (rest order count 0)
   pub shows : Shows 32 32 places (metAt order count)
+
+-- pairs of an order file, and a book that has four bytes for each lot and each eligible pair
+pub record CanCheck (book table order : List ℕ) (count n m : ℕ) : Type 0 where
+  pub tabled : Tabled book table
+  pub packed : Packed table m
+  pub counted : length book ≡ 7 + 4 * n + 4 * size (problemBy book table n m)
+  pub sized : CanWalk order count n m

@@ -10,9 +10,9 @@ ghost use Rattle.specification.specs.Reply.{gives, statedChecked};
 ghost use Rattle.specification.specs.OrderFile.{pairs};
 ghost use Rattle.files.specs.Files.{statedStep};
 ghost use Rattle.book.specs.Pairs.{offsetTable};
-ghost use Rattle.book.specs.Table.{problemBy, Tabled};
+ghost use Rattle.book.specs.Table.{problemBy};
 ghost use Rattle.order.specs.Places.{rest};
-ghost use Rattle.order.specs.Asked.{CanWalk, CanSettle};
+ghost use Rattle.order.specs.Asked.{CanSettle, CanCheck};
 ghost use Rattle.order.specs.Answers.{countAfter, checkedPairs};
 
 // The answer to a whole order: its count of pairs, or the refusal.
@@ -40,7 +40,7 @@ fn settle(
         ⌜ statedStep r ≡ checkMonge (problemBy (now (book .entry)) (now (offsets .entry)) n m)
         (rest (now (order .entry)) count 0) ⌝ }
 {
-    let lowest = super::walk::walk(book, offsets, places, n, order, count);
+    let lowest = super::walk::walk(book, offsets, m, order, count);
     if lowest == count {
         return Step::Passes;
     }
@@ -56,7 +56,7 @@ fn settle(
     )
 }
 
-// The check of an order's pairs.
+// The check of an order's pairs. The book's length tells whether one is missing: it has 7 bytes, and four for each lot and eligible pair.
 fn check_pairs(
     book: &[u8],
     offsets: &[u16; 1024],
@@ -65,7 +65,7 @@ fn check_pairs(
     order: &[u8],
     count: usize,
 ) -> Checked
-    requires { ⌜ Tabled (now book) (now offsets) × CanWalk (now order) count n m ⌝ }
+    requires { ⌜ CanCheck (now book) (now offsets) (now order) count n m ⌝ }
     ensures { λ r.
         ⌜ statedChecked r ≡ checkedPairs (problemBy (now (book .entry)) (now (offsets .entry)) n m)
         (pairs count (drop 7 (now (order .entry)))) count ⌝ }
@@ -75,7 +75,7 @@ fn check_pairs(
     let Step::Passes = met else {
         return answered(met, count);
     };
-    if !super::places::all_present(offsets, &places, n, m) {
+    if 7 + 4 * n + 4 * count < book.len() {
         return Checked::Refused(Refusal::PairMissing);
     }
     answered(settle(book, offsets, &places, n, m, order, count), count)

@@ -1,4 +1,4 @@
-// The pairs of an order by place: 9 and 10 at each, the array of their places, and whether a pair is missing.
+// The pairs of an order by place: 9 and 10 at each, and the array of their places.
 use files::Step;
 use specification::Call;
 use specification::Lot;
@@ -6,10 +6,9 @@ use specification::Refusal;
 ghost use mathlib.Core.Path.{_≡_};
 ghost use Prim.Native.Nat.{_+_, _*_, _<_, _≤_};
 ghost use lib.ListN.{length};
-ghost use Rattle.transport.specs.Finder.{every};
 ghost use Rattle.order.specs.Places.{orderPair, Shows};
 ghost use Rattle.order.specs.Asked.{CanWalk};
-ghost use Rattle.order.specs.Answers.{Met, PlacesFilled, presentIn};
+ghost use Rattle.order.specs.Answers.{Met, PlacesFilled};
 
 // A byte as a number of a wider type.
 fn index(x: u8) -> usize
@@ -88,44 +87,4 @@ pub fn fill_places(
         p += 1;
     }
     Step::Passes
-}
-
-// Whether a pair is not eligible or has a place.
-fn present(offsets: &[u16; 1024], places: &[u16; 1024], n: usize, m: usize, i: Lot, j: Call) -> bool
-    requires { ⌜ (n ≤ 32) × (m ≤ 32) ⌝ }
-    ensures { λ r. ⌜ r ≡ presentIn (now (offsets .entry)) (now (places .entry)) n m (i .0) (j .0) ⌝ }
-{
-    if book::inner::eligible(offsets, n, m, i, j) {
-        return book::inner::entry_of(places, i, j) > 0;
-    }
-    true
-}
-
-// Whether each eligible pair of a lot has a place, and of all lots.
-fn lot_present(offsets: &[u16; 1024], places: &[u16; 1024], n: usize, m: usize, i: Lot) -> bool
-    requires { ⌜ (n ≤ 32) × (m ≤ 32) ⌝ }
-    ensures { λ r. ⌜ r ≡ every m (λ j. presentIn (now (offsets .entry)) (now (places .entry)) n m (i .0) j) ⌝ }
-{
-    let mut j: usize = 0;
-    while j < m {
-        if !present(offsets, places, n, m, i, Call(j)) {
-            return false;
-        }
-        j += 1;
-    }
-    true
-}
-
-pub fn all_present(offsets: &[u16; 1024], places: &[u16; 1024], n: usize, m: usize) -> bool
-    requires { ⌜ (n ≤ 32) × (m ≤ 32) ⌝ }
-    ensures { λ r. ⌜ r ≡ every n (λ i. every m (λ j. presentIn (now (offsets .entry)) (now (places .entry)) n m i j)) ⌝ }
-{
-    let mut i: usize = 0;
-    while i < n {
-        if !lot_present(offsets, places, n, m, Lot(i)) {
-            return false;
-        }
-        i += 1;
-    }
-    true
 }

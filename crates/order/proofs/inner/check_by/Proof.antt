@@ -13,7 +13,8 @@ use Rattle.specification.specs.OrderFile.{orderCount}
 use Rattle.specification.specs.Check.{checkOrder}
 use Rattle.files.specs.Files.{statedStep}
 use Rattle.book.proofs.Readable.{counts-are}
-use Rattle.book.proofs.Tables.{offsets-tabled}
+use Rattle.book.proofs.Tables.{offsets-tabled, offsets-packed}
+use Rattle.book.proofs.Counted.{book-counted}
 use Rattle.order.proofs.Agreeing.{whole-check}
 use Rattle.order.proofs.inner.check_by.Statement.{statement}
 use Rattle.order.proofs.inner.check_by.Tie as tie
@@ -65,15 +66,19 @@ returns-3 c =
 check-pairs-requires : tie.Need-check-pairs-requires
 check-pairs-requires c κs =
     let s = start (c .before .before .before) in
-    let read = counts-are (s .args .book .now) (sym (s .pre .0)) in (
-      rw (s .pre .1) (offsets-tabled (s .args .book .now) read),
-      record {
+    let read = counts-are (s .args .book .now) (sym (s .pre .0)) in
+    let few = read .known .calls-within in
+    record {
+      tabled = rw (s .pre .1) (offsets-tabled (s .args .book .now) read);
+      packed = rw (s .pre .1) (offsets-packed (s .args .book .now) read (omega (arith, read .calls-is)) (omega (arith, read .calls-is)));
+      counted = rw (s .pre .1) (book-counted (s .args .book .now) read);
+      sized = record {
         order-long = c .before .if1 .left;
         few-pairs = omega arith;
         few-lots = omega (arith, read .lots-is, read .known .lots-within);
-        few-calls = omega (arith, read .calls-is, read .known .calls-within);
-      },
-    )
+        few-calls = omega (arith, read .calls-is);
+      };
+    }
 
 returns-4 : tie.Need-returns-4
 returns-4 c =
