@@ -4,11 +4,9 @@ use specification::Counts;
 use specification::Refusal;
 ghost use mathlib.Core.Path.{_≡_};
 ghost use Prim.Native.Nat.{ℕ, _+_, _<_, _≤_};
-ghost use lib.Dec.{leb};
 ghost use lib.ListN.{getD};
-ghost use Rattle.transport.specs.Finder.{every};
 ghost use Rattle.specification.specs.Reply.{statedCounts};
-ghost use Rattle.specification.specs.Amounts.{amountLimit, amountAt, readAmountsOf};
+ghost use Rattle.specification.specs.Amounts.{amountAt, readAmountsOf};
 
 // The amount that the file holds at a number: the lots' amounts come first, then the calls'. Bytes past the end count as 0.
 pub fn amount_at(amounts: &[u8], k: usize) -> u32
@@ -21,19 +19,6 @@ pub fn amount_at(amounts: &[u8], k: usize) -> u32
         return 0;
     }
     files::u32_at(amounts, 7 + 4 * k)
-}
-
-// Whether none of the first so many amounts is above the limit.
-fn all_within(amounts: &[u8], count: usize) -> bool
-    requires { ⌜ count ≤ 64 ⌝ }
-    ensures { λ r. ⌜ r ≡ every count (λ k. leb (amountAt (now (amounts .entry)) k) amountLimit) ⌝ }
-{
-    for k in 0..count {
-        if 1_000_000_000 < amount_at(amounts, k) {
-            return false;
-        }
-    }
-    true
 }
 
 // The counts, or the refusal of the amounts.
@@ -58,7 +43,7 @@ pub fn read_of(lots: usize, calls: usize, amounts: &[u8]) -> Counts
     if size < amounts.len() {
         return Counts::Refused(Refusal::BytesAfter);
     }
-    if all_within(amounts, lots + calls) {
+    if book::inner::all_within(amounts, 7, lots + calls, 1_000_000_000) {
         return Counts::Are(lots, calls);
     }
     Counts::Refused(Refusal::AmountTooHigh)

@@ -3,24 +3,45 @@ use specification::Call;
 use specification::Lot;
 ghost use mathlib.Core.Path.{_≡_};
 ghost use mathlib.Core.Bool.{true};
-ghost use Prim.Native.Nat.{_+_, _<_, _≤_};
-ghost use lib.ListN.{length};
+ghost use Prim.Native.Nat.{ℕ, _+_, _*_, _<_, _≤_};
+ghost use lib.Dec.{leb};
+ghost use lib.ListN.{length, drop, getD};
+ghost use Rattle.transport.specs.Finder.{every};
 ghost use Rattle.specification.specs.Bytes.{u32At};
-ghost use Rattle.specification.specs.Book.{bookLots};
+ghost use Rattle.specification.specs.Book.{bookLots, rowCost};
 ghost use Rattle.book.specs.Pairs.{readable, rowStart, offsetTable};
 ghost use Rattle.book.specs.Table.{entry, admitsBy, CanRead, WithRow};
 
-// The byte at which a lot's row starts in a readable book.
+// The byte at which each of the first `lots` rows starts in a readable book.
+pub fn row_starts(book: &[u8], lots: usize) -> [usize; 32]
+    requires { ⌜ (readable (now book) ≡ true) × (lots ≤ bookLots (now book)) ⌝ }
+    ensures { λ r. ⌜ ((i : ℕ) → i < lots → getD r i 0 ≡ rowStart (now (book .entry)) i) ⌝ }
+{
+    let mut starts = [0usize; 32];
+    let mut at = 7;
+    for i in 0..lots {
+        starts[i] = at;
+        at += super::row::size(&book[at..]);
+    }
+    starts
+}
+
+// The byte at which a lot's row starts.
 pub fn row_at(book: &[u8], lot: Lot) -> usize
     requires { ⌜ (readable (now book) ≡ true) × (lot .0 < bookLots (now book)) ⌝ }
     ensures { λ r. ⌜ r ≡ rowStart (now (book .entry)) (lot .0) ⌝ }
 {
     let i = lot.0;
-    let mut at = 7;
-    for k in 0..i {
-        at += super::row::size(&book[at..]);
-    }
-    at
+    let starts = row_starts(book, i + 1);
+    starts[i]
+}
+
+// The cost of a call in the row that starts at a byte of the book.
+pub fn cost_from(book: &[u8], start: usize, call: Call) -> u32
+    requires { ⌜ start ≤ length (now book) ⌝ }
+    ensures { λ r. ⌜ r ≡ rowCost (drop start (now (book .entry))) (call .0) ⌝ }
+{
+    super::row::cost_in(&book[start..], call)
 }
 
 // Enters the places of one lot's costs, of which the first stands at `at`.
@@ -86,6 +107,20 @@ pub fn cost_at(book: &[u8], at: usize) -> u32
         + 256 * byte(book[at + 1])
         + 65536 * byte(book[at + 2])
         + 16777216 * byte(book[at + 2 + 1])
+}
+
+// Whether none of `count` 32-bit numbers is above the limit, the first of them at a byte. There is no early end: the pass is straight code.
+pub fn all_within(s: &[u8], start: usize, count: usize, limit: u32) -> bool
+    requires { ⌜ start + 4 * count ≤ length (now s) ⌝ }
+    ensures { λ r. ⌜ r ≡ every count (λ k. leb (u32At (now (s .entry)) (start + 4 * k)) limit) ⌝ }
+{
+    let mut within = true;
+    for k in 0..count {
+        if limit < cost_at(s, start + 4 * k) {
+            within = false;
+        }
+    }
+    within
 }
 
 // The cost of a pair; of one that is not eligible, the number that opens the book.

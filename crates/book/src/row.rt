@@ -25,8 +25,8 @@ pub fn cost_in(row: &[u8], call: Call) -> u32
     files::u32_at(row, 4 + 4 * super::word::count_below(word, j))
 }
 
-// The costs, lowest bit first, of a row that stands whole in the book: none may be above the limit.
-fn read_costs(row: &[u8], lot: Lot, calls: usize) -> Step
+// The first cost above the limit, lowest bit first, of a row that stands whole in the book.
+fn first_above(row: &[u8], lot: Lot, calls: usize) -> Step
     requires { ⌜ rowSize (now row) ≤ length (now row) ⌝ }
     ensures { λ r. ⌜ statedStep r ≡ readCosts (now (row .entry)) (lot .0) calls 0 ⌝ }
 {
@@ -42,6 +42,18 @@ fn read_costs(row: &[u8], lot: Lot, calls: usize) -> Step
         }
     }
     Step::Passes
+}
+
+// The costs of a row that stands whole in the book: none may be above the limit. Only where one is, they are gone through by call.
+fn read_costs(row: &[u8], lot: Lot, calls: usize) -> Step
+    requires { ⌜ rowSize (now row) ≤ length (now row) ⌝ }
+    ensures { λ r. ⌜ statedStep r ≡ readCosts (now (row .entry)) (lot .0) calls 0 ⌝ }
+{
+    let costs = super::word::count(files::u32_at(row, 0));
+    if super::inner::all_within(row, 4, costs, 1_000_000) {
+        return Step::Passes;
+    }
+    first_above(row, lot, calls)
 }
 
 // The row of a lot: its word, and then its costs.

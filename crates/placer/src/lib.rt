@@ -39,16 +39,7 @@ pub fn find_and_run(book: &[u8], amounts: &[u8], flow: &mut [u32]) -> Placed
     };
     let remaining = run::inner::remaining_of(amounts, n, m);
     let length = 7 + 2 * count;
-    run::inner::run_by(
-        &order[..length],
-        count,
-        n,
-        m,
-        remaining,
-        book,
-        &offsets,
-        flow,
-    )
+    run::inner::run_by(&order[..length], count, n, m, remaining, book, flow)
 }
 
 // How many bytes of each file are read at most: one more than the largest file has, so that a longer one is refused.

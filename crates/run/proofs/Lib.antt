@@ -1,6 +1,4 @@
 -- The mathematics of a run, apart from its code.
-pub mod Costs
-pub mod Summing
 pub mod Listing
 pub mod Grid
 pub mod Steps

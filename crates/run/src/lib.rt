@@ -1,7 +1,5 @@
 // Running an order (document 01, "Running an order"): `run_order` reads and checks its inputs; past the refusals the order is run.
 pub mod inner;
-mod sums;
-mod turns;
 
 use specification::Checked;
 use specification::Counts;
@@ -45,5 +43,5 @@ pub fn run_order(book: &[u8], order: &[u8], amounts: &[u8], flow: &mut [u32]) ->
         return Placed::Refused(Refusal::BufferTooShort);
     }
     let remaining = inner::remaining_of(amounts, n, m);
-    inner::run_by(order, count, n, m, remaining, book, &offsets, flow)
+    inner::run_by(order, count, n, m, remaining, book, flow)
 }

@@ -124,21 +124,21 @@ slice-aggregate-run-by c = let f = few (c .before .before) in sym (length-take-l
 
 run-by-requires : tie.Need-run-by-requires
 run-by-requires c κs =
-    let t = c .before .before .before in
+    let t = c .before .before in
     let k = t .before in
     let f = searched k in
     let r = sized f in
     accepted _ (size r) (book-read r) _ _ (lent r) _ (file-passes _ _ _ (book-read r) (file k)) (read r) (offered f .before .if1 .left)
-    _ (offered f .offsets .ensures) _ (t .remaining-of .ensures)
+    _ (t .remaining-of .ensures)
 
 returns-4 : tie.Need-returns-4
 returns-4 c =
-    let t = c .before .before .before .before .before .before in
+    let t = c .before .before .before .before .before in
     let k = t .before in
     let f = searched k in
     let r = sized f in
     let ran = as-specified _ (size r) (book-read r) _ _ (lent r) _ (file-passes _ _ _ (book-read r) (file k)) (read r)
-    (offered f .before .if1 .left) _ (offered f .offsets .ensures) _ (t .remaining-of .ensures) _ _ (c .before .before .run-by .ensures) in
+    (offered f .before .if1 .left) _ (t .remaining-of .ensures) _ _ (c .before .before .run-by .ensures) in
     let same = runs-file _ _ (count k) (book-read r) (file k) _ _ in
     (ran .0 ∙ sym (same .0), ran .1 ∙ sym (same .1))
 

@@ -105,21 +105,19 @@ remaining-of-requires c κs = let r = read-book (c .before) in sizes-within _ (s
 
 run-by-requires : tie.Need-run-by-requires
 run-by-requires c κs =
-    let long = c .before .before .before in
+    let long = c .before .before in
     let d = long .before in
     let r = read-book d in
-    accepted _ (size r) (reads r) _ _ (lent d) _ (passes (checked d)) (read d) (long .if1 .left)
-    _ (checked d .before .before .before .before .before .offsets .ensures) _ (c .before .before .remaining-of .ensures)
+    accepted _ (size r) (reads r) _ _ (lent d) _ (passes (checked d)) (read d) (long .if1 .left) _ (c .before .remaining-of .ensures)
 
 returns-5 : tie.Need-returns-5
 returns-5 c =
     let ran = c .before .before in
-    let loaded = ran .before .before .before in
+    let loaded = ran .before .before in
     let long = loaded .before in
     let d = long .before in
     let r = read-book d in
-    as-specified _ (size r) (reads r) _ _ (lent d) _ (passes (checked d)) (read d) (long .if1 .left)
-    _ (checked d .before .before .before .before .before .offsets .ensures) _ (loaded .remaining-of .ensures)
+    as-specified _ (size r) (reads r) _ _ (lent d) _ (passes (checked d)) (read d) (long .if1 .left) _ (loaded .remaining-of .ensures)
     _ _ (ran .run-by .ensures)
 
 pub run-order-spec : {M : Type 1} → statement M

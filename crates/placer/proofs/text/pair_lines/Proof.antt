@@ -1,12 +1,11 @@
 -- `placer::text::pair_lines` meets its contract. The invariant: the lines of the entries passed have been appended, in at most 17 bytes
 -- each.
 use mathlib.Core.Path.{_≡_}
-use Prim.Native.Nat.{_*_, _/_, _%_, _≤_, _<_, _-_}
-use native.Mathlib.Nat.{mul-le-mul}
+use Prim.Native.Nat.{ℕ, zero, suc, _*_, _/_, _%_, _≤_, _<_, _-_}
+use native.Mathlib.Nat.{mul-le-mul, not-suc-le-zero, div-lt-iff-lt-mul, mod-lt, mul-zero, zero-lt-suc}
 use native.Mathlib.Numerals.{add-one}
 use native.Mathlib.Omega.{arith}
 use Rattle.specification.specs.Text.{pairLines}
-use Rattle.run.proofs.Grid.{cell-in}
 use Rattle.placer.specs.Rendering.{AppendedWithin}
 use Rattle.placer.proofs.Appending.{append-none, within-of, within-more}
 use Rattle.placer.proofs.text.pair_lines.Statement.{statement}
@@ -21,6 +20,11 @@ abbrev μ-loop : tie.MeasureT-loop
 
 cells-most : (c : tie.Start Inv-loop μ-loop) → c .args .n * c .args .m ≤ 1024
 cells-most c = mul-le-mul {n₂ = 32} {m₂ = 32} (c .pre .0) (c .pre .1)
+
+-- each entry is a pair's
+cell-in : (n m k : ℕ) → k < n * m → (k / m < n) × (k % m < m)
+cell-in n zero k l = absurd (not-suc-le-zero (rw (mul-zero n) at l))
+cell-in n (suc m) k l = (div-lt-iff-lt-mul (zero-lt-suc m) .1 l, mod-lt k (zero-lt-suc m))
 
 -- in a turn the entry at hand is that of a lot and a call
 cell : (c : tie.In-loop Inv-loop μ-loop)
