@@ -3,10 +3,10 @@ use mathlib.Core.Path.{_≡_, sym, _∙_}
 use mathlib.Core.Bool.{true, false, cond, _&&_, and-false}
 use mathlib.Core.List.{List}
 use mathlib.Core.Logic.{⊎-elim}
-use Prim.Native.Nat.{ℕ, _+_, _*_, _/_, _%_, _≤_, _<_}
+use Prim.Native.Nat.{ℕ, zero, suc, _+_, _*_, _-_, _/_, _%_, _≤_, _<_}
 use native.Mathlib.Omega.{arith}
 use native.Mathlib.Decide.{ℕ-discrete}
-use native.Mathlib.Nat.{mod-lt}
+use native.Mathlib.Nat.{mod-lt, add-zero}
 use borrow.Author.Tests.{lt-ltb, le-ltb, eq-eqb, ne-eqb}
 use lib.Dec.{ltb, eqb, lit<}
 use lib.ListN.{length, getD, set, length-set}
@@ -14,7 +14,7 @@ use lib.Seq.{getD-set-same, getD-set-other}
 use Rattle.files.proofs.Parts.{le-or-lt}
 use Rattle.specification.specs.Book.{bit}
 use Rattle.book.specs.Pairs.{onesBelow}
-use Rattle.book.specs.Table.{withRow}
+use Rattle.book.specs.Table.{withRow, WithRow, SetFrom}
 use Rattle.book.proofs.Bits.{ones-below-none, ones-below-set, ones-below-unset}
 
 ltb-next : (r j : ℕ) → (r ≡ j → ⊥) → ltb r (j + 1) ≡ ltb r j
@@ -84,3 +84,27 @@ module _ (table : List ℕ) (word i at : ℕ) where
     next-is = E .next-is ∙ omega (arith, ones-below-unset word j b);
     entries = λ k h. E .entries k h ∙ sym (part-kept j k (λ r q. b));
   }
+
+  -- calls whose bits are clear are passed over
+  pub entered-skip : (d : ℕ) {j next : ℕ} (entered : List ℕ) → Entered j entered next → j + d ≤ 32
+      → ((k : ℕ) → j ≤ k → k < j + d → bit word k ≡ false) → Entered (j + d) entered next
+  entered-skip zero {j} entered E h clear = rw (add-zero j) E
+  entered-skip (suc d) {j} entered E h clear =
+      let e : j + suc d ≡ j + 1 + d = omega arith in
+      rw e (entered-skip d entered (entered-unset entered E (omega arith) (clear j (omega arith) (omega arith))) (omega arith)
+      (λ k l l′. clear k (omega arith) (omega arith)))
+
+  -- up to the next set bit
+  pub entered-to : {j next r : ℕ} (entered : List ℕ) → Entered j entered next → j ≤ 32 → SetFrom word j r → Entered r entered next
+  entered-to {j} {next} {r} entered E h from =
+      let up : j + (r - j) ≡ r = omega (arith, from .not-below h) in
+      rw up at (entered-skip (r - j) entered E (omega (arith, from .within)) (λ k l l′. from .clear k l (omega arith)))
+
+  -- once the bits that are left are clear, all 32 calls are entered
+  pub entered-all : {j next : ℕ} (entered : List ℕ) → Entered j entered next
+      → ((k : ℕ) → j ≤ k → k < 32 → bit word k ≡ false) → WithRow table word i at entered
+  entered-all {j} entered E clear =
+      let d = 32 - j in
+      let full : j + d ≡ 32 = omega (arith, E .bounded) in
+      let whole = rw full at (entered-skip d entered E (omega arith) (λ k l l′. clear k l (omega arith))) in
+      record { long = whole .long; entries = λ k h. whole .entries k h ∙ part-all k }

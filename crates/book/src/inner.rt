@@ -3,7 +3,8 @@ use specification::Call;
 use specification::Lot;
 ghost use mathlib.Core.Path.{_≡_};
 ghost use mathlib.Core.Bool.{true};
-ghost use Prim.Native.Nat.{ℕ, _+_, _*_, _<_, _≤_};
+ghost use Prim.Native.Nat.{ℕ, _+_, _*_, _^_, _<_, _≤_};
+ghost use lib.Count.{ones};
 ghost use lib.Dec.{leb};
 ghost use lib.ListN.{length, drop, getD};
 ghost use Rattle.transport.specs.Finder.{every};
@@ -44,19 +45,45 @@ pub fn cost_from(book: &[u8], start: usize, call: Call) -> u32
     super::row::cost_in(&book[start..], call)
 }
 
-// Enters the places of one lot's costs, of which the first stands at `at`.
-fn enter_row(table: &mut [u16; 1024], word: u32, lot: Lot, at: usize)
+// Enters the places of one lot's costs, of which the first stands at `at`: set bit by set bit.
+fn enter_set(table: &mut [u16; 1024], word: u32, lot: Lot, at: usize)
     requires { ⌜ (length (now table) ≡ 1024) × (lot .0 < 32) × (at < 65000) ⌝ }
     ensures { λ _. ⌜ WithRow (now (table .entry)) word (lot .0) at (now (table .exit)) ⌝ }
 {
     let i = lot.0;
     let base = 32 * i;
-    let mut next = at;
-    for j in 0..32 {
-        if super::word::is_set(word, j) {
-            table[base + j] = next as u16;
-            next += 4;
-        }
+    let mut next = at as u16;
+    let mut j = super::word::set_from(word, 0);
+    while j < 32 {
+        table[base + j] = next;
+        next += 4;
+        j = super::word::set_from(word, j + 1);
+    }
+}
+
+// The same where the row has no gap: its set bits are the lowest.
+fn enter_first(table: &mut [u16; 1024], word: u32, lot: Lot, at: usize)
+    requires { ⌜ (length (now table) ≡ 1024) × (lot .0 < 32) × (at < 65000) × (word < 2 ^ ones word) ⌝ }
+    ensures { λ _. ⌜ WithRow (now (table .entry)) word (lot .0) at (now (table .exit)) ⌝ }
+{
+    let i = lot.0;
+    let base = 32 * i;
+    let costs = super::word::count(word);
+    let mut next = at as u16;
+    for j in 0..costs {
+        table[base + j] = next;
+        next += 4;
+    }
+}
+
+fn enter_row(table: &mut [u16; 1024], word: u32, lot: Lot, at: usize)
+    requires { ⌜ (length (now table) ≡ 1024) × (lot .0 < 32) × (at < 65000) ⌝ }
+    ensures { λ _. ⌜ WithRow (now (table .entry)) word (lot .0) at (now (table .exit)) ⌝ }
+{
+    if super::word::reaches(word, super::word::count(word)) {
+        enter_set(table, word, lot, at);
+    } else {
+        enter_first(table, word, lot, at);
     }
 }
 
@@ -75,17 +102,11 @@ pub fn offsets(book: &[u8], lots: usize) -> [u16; 1024]
     table
 }
 
-// Numbers read through a reference come with no bound; as parameters they have their type's.
+// A number read through a reference comes with no bound; as a parameter it has its type's.
 fn wide(x: u16) -> usize
     ensures { λ r. ⌜ r ≡ x ⌝ }
 {
     x as usize
-}
-
-fn byte(x: u8) -> u32
-    ensures { λ r. ⌜ (r ≡ x) × (r < 256) ⌝ }
-{
-    x as u32
 }
 
 // What an array of 32 by 32 entries holds for a pair.
@@ -103,10 +124,7 @@ pub fn cost_at(book: &[u8], at: usize) -> u32
     requires { ⌜ at + 4 ≤ length (now book) ⌝ }
     ensures { λ r. ⌜ r ≡ u32At (now (book .entry)) at ⌝ }
 {
-    byte(book[at])
-        + 256 * byte(book[at + 1])
-        + 65536 * byte(book[at + 2])
-        + 16777216 * byte(book[at + 2 + 1])
+    files::u32_in(book, at)
 }
 
 // Whether none of `count` 32-bit numbers is above the limit, the first of them at a byte. There is no early end: the pass is straight code.

@@ -3,26 +3,18 @@ use mathlib.Core.Path.{_≡_, refl, sym, ap, _∙_}
 use mathlib.Core.Logic.{inl}
 use mathlib.Core.Bool.{true, false}
 use Prim.Native.Nat.{ℕ, zero, suc, _+_, _*_, _-_, _/_, _%_, _^_, _≤_, _<_, max}
-use native.Mathlib.Nat.{div-one, div-eq-of-lt, div-mul-le-self, mod-le, mod-lt, mul-le-mul-right, le-trans, lt-of-lt-of-le, pow-suc}
+use native.Mathlib.Nat.{div-eq-of-lt, div-mul-le-self, mod-le, mod-lt, mul-le-mul-right, le-trans, lt-of-lt-of-le, pow-suc}
 use native.Mathlib.Nat.{one-mul}
 use native.Mathlib.Omega.{arith}
 use borrow.Author.Tests.{eqb-true}
 use lib.Dec.{eqb, lit<}
 use lib.Bits.{bitOr, or-step, or-shr}
 use lib.Arith.{digits-div}
-use lib.Count.{leadingZeros, leading-top, trailingZeros, under}
+use lib.Count.{leadingZeros, leading-top, trailingZeros}
 use lib.Pow.{pow-pos, pow-mono, shr-shr, field, mod-mod-pow}
 use Rattle.specification.specs.Book.{bit}
-use Rattle.book.proofs.Bits.{bit-past, bit-below}
+use Rattle.book.proofs.Bits.{bit-past, bit-below, digit-first, digit-next, trails, trails-lt}
 use Rattle.finder.specs.Words.{LowestIn, HighestIn, Above, Below, Without, IncludingIf}
-
-digit-zero : (w : ℕ) → w / 2 ^ 0 % 2 ≡ w % 2
-digit-zero w = ap (λ (x : ℕ). x % 2) (div-one w)
-
-digit-suc : (w l : ℕ) → w / 2 ^ suc l % 2 ≡ w / 2 / 2 ^ l % 2
-digit-suc w l =
-    let e : 1 + l ≡ suc l = omega arith in
-    sym (ap (λ (x : ℕ). x % 2) (shr-shr w 1 l ∙ ap (λ (x : ℕ). w / 2 ^ x) e))
 
 pub bit-set : (w l : ℕ) → w / 2 ^ l % 2 ≡ 1 → bit w l ≡ true
 bit-set w l e = rw e
@@ -32,34 +24,6 @@ bit-unset w l e = rw e
 
 pub bit-none : (l : ℕ) → bit 0 l ≡ false
 bit-none l = bit-unset 0 l (ap (λ (x : ℕ). x % 2) (div-eq-of-lt (pow-pos l)))
-
--- the lowest digit that is set, of k
-abbrev Trails : ℕ → ℕ → ℕ → Type 0
-Trails k n t = (t < k → n / 2 ^ t % 2 ≡ 1) × ((l : ℕ) → l < t → n / 2 ^ l % 2 ≡ 0)
-
-trails-step : (k n d t : ℕ) → n % 2 ≡ d → d < 2 → Trails k (n / 2) t → Trails (suc k) n (under d t)
-trails-step k n zero t e h r = (λ lt. digit-suc n t ∙ r .0 (omega arith), below)
-  where
-    below : (l : ℕ) → l < suc t → n / 2 ^ l % 2 ≡ 0
-    below zero lt = digit-zero n ∙ e
-    below (suc l) lt = digit-suc n l ∙ r .1 l (omega arith)
-trails-step k n (suc zero) t e h r = (λ lt. digit-zero n ∙ e, λ l lt. absurd (omega arith))
-trails-step k n (suc (suc d)) t e h r = absurd (omega arith)
-
-trails : (k n : ℕ) → Trails k n (trailingZeros k n)
-unfolding trailingZeros
-trails zero n = (λ lt. absurd (omega arith), λ l lt. absurd (omega arith))
-trails (suc k) n = trails-step k n (n % 2) (trailingZeros k (n / 2)) refl (mod-lt n (lit< tt)) (trails k (n / 2))
-
-under-lt : (k n d t : ℕ) → n % 2 ≡ d → d < 2 → 0 < n → (0 < n / 2 → t < k) → under d t < suc k
-under-lt k n zero t e h p f = omega (arith, f (omega arith))
-under-lt k n (suc d) t e h p f = omega arith
-
-trails-lt : (k n : ℕ) → 0 < n → n < 2 ^ k → trailingZeros k n < k
-unfolding trailingZeros
-trails-lt zero n p h = absurd (omega arith)
-trails-lt (suc k) n p h = under-lt k n (n % 2) (trailingZeros k (n / 2)) refl (mod-lt n (lit< tt)) p
-    (λ q. trails-lt k (n / 2) q (omega (arith, pow-suc 2 k)))
 
 pub lowest-is : (n : ℕ) → 0 < n → n < 2 ^ 32 → LowestIn n (trailingZeros 32 n) × (trailingZeros 32 n < 32)
 lowest-is n p h = (
@@ -116,10 +80,10 @@ pub place-le : (w j : ℕ) → w / 2 ^ j % 2 * 2 ^ j ≤ w
 place-le w j = le-trans (mul-le-mul-right (2 ^ j) (mod-le (w / 2 ^ j) 2)) (div-mul-le-self w (2 ^ j))
 
 cleared-first : (w : ℕ) → cleared w 0 ≡ w - w % 2
-cleared-first w = omega (arith, digit-zero w)
+cleared-first w = omega (arith, digit-first w)
 
 cleared-place : (w j : ℕ) → cleared w (suc j) ≡ w - (w / 2 / 2 ^ j % 2 * 2 ^ j) * 2
-cleared-place w j = rw (digit-suc w j, pow-suc 2 j) (omega arith)
+cleared-place w j = rw (digit-next w j, pow-suc 2 j) (omega arith)
 
 cleared-half : (w j : ℕ) → cleared w (suc j) / 2 ≡ cleared (w / 2) j
 cleared-half w j = omega (arith, cleared-place w j, place-le (w / 2) j)
@@ -131,16 +95,16 @@ cleared-other : (w j l : ℕ) → (l ≡ j → ⊥) → cleared w j / 2 ^ l % 2 
 cleared-other w zero zero d = absurd (d refl)
 cleared-other w zero (suc l) d =
     let e : cleared w 0 / 2 ≡ w / 2 = omega (arith, cleared-first w) in
-    digit-suc (cleared w 0) l ∙ ap (λ (x : ℕ). x / 2 ^ l % 2) e ∙ sym (digit-suc w l)
-cleared-other w (suc j) zero d = digit-zero (cleared w (suc j)) ∙ cleared-odd w j ∙ sym (digit-zero w)
+    digit-next (cleared w 0) l ∙ ap (λ (x : ℕ). x / 2 ^ l % 2) e ∙ sym (digit-next w l)
+cleared-other w (suc j) zero d = digit-first (cleared w (suc j)) ∙ cleared-odd w j ∙ sym (digit-first w)
 cleared-other w (suc j) (suc l) d =
-    digit-suc (cleared w (suc j)) l ∙ ap (λ (x : ℕ). x / 2 ^ l % 2) (cleared-half w j)
-    ∙ cleared-other (w / 2) j l (λ e. d (ap suc e)) ∙ sym (digit-suc w l)
+    digit-next (cleared w (suc j)) l ∙ ap (λ (x : ℕ). x / 2 ^ l % 2) (cleared-half w j)
+    ∙ cleared-other (w / 2) j l (λ e. d (ap suc e)) ∙ sym (digit-next w l)
 
 cleared-same : (w j : ℕ) → cleared w j / 2 ^ j % 2 ≡ 0
-cleared-same w zero = digit-zero (cleared w 0) ∙ omega (arith, cleared-first w)
+cleared-same w zero = digit-first (cleared w 0) ∙ omega (arith, cleared-first w)
 cleared-same w (suc j) =
-    digit-suc (cleared w (suc j)) j ∙ ap (λ (x : ℕ). x / 2 ^ j % 2) (cleared-half w j) ∙ cleared-same (w / 2) j
+    digit-next (cleared w (suc j)) j ∙ ap (λ (x : ℕ). x / 2 ^ j % 2) (cleared-half w j) ∙ cleared-same (w / 2) j
 
 pub without-is : (w j : ℕ) → Without w j (cleared w j)
 without-is w j = record {
@@ -156,15 +120,15 @@ power-same : (j : ℕ) → 2 ^ j / 2 ^ j % 2 ≡ 1
 power-same zero = refl
 power-same (suc j) =
     let e : 2 ^ suc j / 2 ≡ 2 ^ j = omega (arith, pow-suc 2 j) in
-    digit-suc (2 ^ suc j) j ∙ ap (λ (x : ℕ). x / 2 ^ j % 2) e ∙ power-same j
+    digit-next (2 ^ suc j) j ∙ ap (λ (x : ℕ). x / 2 ^ j % 2) e ∙ power-same j
 
 power-other : (j l : ℕ) → (l ≡ j → ⊥) → 2 ^ j / 2 ^ l % 2 ≡ 0
 power-other zero zero d = absurd (d refl)
-power-other zero (suc l) d = digit-suc 1 l ∙ ap (λ (x : ℕ). x % 2) (div-eq-of-lt (pow-pos l))
-power-other (suc j) zero d = digit-zero (2 ^ suc j) ∙ omega (arith, pow-suc 2 j)
+power-other zero (suc l) d = digit-next 1 l ∙ ap (λ (x : ℕ). x % 2) (div-eq-of-lt (pow-pos l))
+power-other (suc j) zero d = digit-first (2 ^ suc j) ∙ omega (arith, pow-suc 2 j)
 power-other (suc j) (suc l) d =
     let e : 2 ^ suc j / 2 ≡ 2 ^ j = omega (arith, pow-suc 2 j) in
-    digit-suc (2 ^ suc j) l ∙ ap (λ (x : ℕ). x / 2 ^ l % 2) e ∙ power-other j l (λ q. d (ap suc q))
+    digit-next (2 ^ suc j) l ∙ ap (λ (x : ℕ). x / 2 ^ l % 2) e ∙ power-other j l (λ q. d (ap suc q))
 
 or-digit : (a b l : ℕ) → bitOr a b / 2 ^ l % 2 ≡ max (a / 2 ^ l % 2) (b / 2 ^ l % 2)
 or-digit a b l =

@@ -9,15 +9,18 @@ use Rattle.files.proofs.u32_at.Tie as tie
 returns : tie.Need-returns
 returns c = sym (u32-past _ _ (c .if1 .taken))
 
-returns-2 : tie.Need-returns-2
+returns-3 : tie.Need-returns-3
 unfolding u32At
-returns-2 c = search needs
+returns-3 c = search needs
 
 pub u32-at-spec : {M : Type 1} → statement M
 u32-at-spec =
     tie.close
     (tie.spec
     returns
+    (λ c. search needs)
+    (λ c κs. search needs)
+    (λ c. search needs)
     (λ c κs. search needs)
     (λ c. search needs)
     (λ c. search needs)
@@ -25,4 +28,4 @@ u32-at-spec =
     (λ c. search needs)
     (λ c. search needs)
     (λ c. search needs)
-    returns-2)
+    returns-3)

@@ -1,5 +1,5 @@
 -- `book::inner::all_within` meets its contract. The invariant: the flag says whether every number passed is within the limit.
-use mathlib.Core.Path.{_≡_, refl, sym, _∙_}
+use mathlib.Core.Path.{_≡_, refl, _∙_}
 use mathlib.Core.Bool.{and-false, and-true}
 use mathlib.Core.Logic.{⊎-elim}
 use Prim.Native.Nat.{_+_, _*_, _-_, _≤_}
@@ -24,12 +24,14 @@ loop-holds c = (omega arith, refl)
 
 loop-again : tie.Need-loop-again Inv-loop μ-loop
 loop-again c =
-    let l = c .before .before .before .loop in
-    (omega arith, ⊎-elim
-    (λ (if1, within-is). within-is ∙ rw (← every-more, lt-leb _ _ (rw (c .before .cost-at .ensures) at (if1 .taken)), and-false))
-    (λ (if1, within-is).
-    within-is ∙ l .inv .1 ∙ rw (← every-more, le-leb _ _ (rw (c .before .cost-at .ensures) at (if1 .left)), and-true))
-    (c .if1 .came))
+    let l = c .before .before .before .loop in (
+      omega arith,
+      ⊎-elim
+          (λ (if1, within-is). within-is ∙ rw (← every-more, lt-leb _ _ (rw (c .before .cost-at .ensures) at (if1 .taken)), and-false))
+          (λ (if1, within-is).
+          within-is ∙ l .inv .1 ∙ rw (← every-more, le-leb _ _ (rw (c .before .cost-at .ensures) at (if1 .left)), and-true))
+          (c .if1 .came),
+    )
 
 returns : tie.Need-returns Inv-loop μ-loop
 returns c = let e : c .before .loop .k ≡ c .before .before .before .args .count = omega arith in rw e at (c .before .loop .inv .1)
