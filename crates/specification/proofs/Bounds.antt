@@ -68,7 +68,7 @@ run-within book order amounts flow o e =
 
 pub find-and-run-within : (book amounts flow : List ℕ) (o : Outcome) → findAndRun book amounts flow ≡ gives o → Small o
 find-and-run-within book amounts flow o e =
-    let (S, found, _) = said-of-given (find-and-run-says book amounts flow) o e in
+    let (S, found, _, _) = said-of-given (find-and-run-says book amounts flow) o e in
     run-within book (orderFile S) amounts flow o (sym (find-and-run-is-run book amounts flow S found .0) ∙ e)
 
 -- 1,024 flow entries are enough for every book: the printing program never meets 17

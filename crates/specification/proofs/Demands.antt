@@ -1,13 +1,13 @@
 -- The three demands, each put together from what the other files say of the entry points. Demand 3 rests on three theorems on all
 -- problems: a Monge sequence is a good order, a good order is a Monge sequence, and the finder finds a Monge sequence where there is one.
-use mathlib.Core.Path.{_≡_, refl, _∙_, ap, subst}
+use mathlib.Core.Path.{_≡_, refl, sym, _∙_, ap}
 use mathlib.Core.Logic.{_⊎_, inl, inr}
 use mathlib.Core.List.{List, []}
 use mathlib.Core.Option.{some, none}
 use Prim.Native.Nat.{ℕ, _≤_}
 use native.Mathlib.Omega.{arith}
 use lib.Dec.{ltb, ltb→lt, lit≤}
-use lib.ListN.{length, take}
+use lib.ListN.{length}
 use Rattle.transport.specs.Greedy.{Pair}
 use Rattle.transport.specs.Finder.{find, size}
 use Rattle.transport.proofs.Laws.Tests.{T-false}
@@ -15,17 +15,20 @@ use Rattle.transport.proofs.Orders.Length.{order-length}
 use Rattle.transport.proofs.Greedy.Optimal.{good-of-monge}
 use Rattle.transport.proofs.Greedy.Converse.{monge-of-good}
 use Rattle.transport.proofs.Finder.Find.{find-is-order, find-is-monge, find-none}
-use Rattle.specification.specs.Reply.{Reply, gives, refuses}
+use Rattle.specification.specs.Reply.{Reply, gives, refuses, Outcome}
 use Rattle.specification.specs.Book.{problemOf, lotCosts}
-use Rattle.specification.specs.OrderFile.{orderCount}
+use Rattle.specification.specs.OrderFile.{orderCount, orderPairs, orderFile}
+use Rattle.specification.specs.Check.{checkOrder}
 use Rattle.specification.specs.Run.{runFlow}
 use Rattle.specification.specs.Find.{orderLength, foundOrder, findOrder, findBuffer, foundToRun, findAndRun, findAndRunFlow}
-use Rattle.specification.specs.Demands.{InTable, Answered, Demand1, Readable, Passing, Demand2, GoodOrder, ByReturned, Demand3}
+use Rattle.specification.specs.Demands.{InTable, Answered, Demand1, Readable, OrderShaped, Passing, returned, Demand2}
+use Rattle.specification.specs.Demands.{GoodOrder, Best, Demand3}
 use Rattle.specification.proofs.Replies.{
   Says,
   giving,
   refusing,
   not-both,
+  said-of-given,
   refused-before,
   by-reply,
   gives-if-never-refused,
@@ -76,10 +79,10 @@ demand1 = record {
 
 -- what the finder wrote passes the check
 module _ (book buffer : List ℕ) (n : ℕ) (e : findOrder book buffer ≡ gives n) where
-  returned-passes : Passing book (take n (findBuffer book buffer))
+  returned-passes : Passing book (returned book buffer)
   returned-passes = let w = written book buffer n e in rw (w .file) (found-passes book (w .order) (w .gave .readable) (w .gave .found))
 
-  returned-count : orderCount (take n (findBuffer book buffer)) ≡ size (problemOf book)
+  returned-count : orderCount (returned book buffer) ≡ size (problemOf book)
   returned-count =
       let w = written book buffer n e in
       rw (w .file) (count-back (w .order) ∙ order-length (find-is-order (problemOf book) (w .order) (w .gave .found)))
@@ -132,13 +135,30 @@ module _ (book buffer : List ℕ) (readable : Readable book) (long : orderLength
           let order = find-is-order (problemOf book) S found in
           (order, good-of-monge order (find-is-monge (problemOf book) S found) _)
 
+-- a file that holds a good order passes
+good-passes : (book order : List ℕ) → Readable book → OrderShaped order → GoodOrder book (orderPairs order)
+    → checkOrder book order ≡ gives (orderCount order)
+good-passes book order readable shaped (each-once, good) = check-passes book order (record {
+  readable = readable;
+  shaped = shaped;
+  each-once = each-once;
+  monge = monge-of-good _ (problemOf book) (orderPairs order) each-once good (lit≤ tt);
+})
+
+-- find and run is the run by a file that passes
+find-and-run-best : (book amounts flow : List ℕ) (o : Outcome) → findAndRun book amounts flow ≡ gives o → Best book amounts o
+find-and-run-best book amounts flow o e =
+    let (S, found, readable, _) = said-of-given (find-and-run-says book amounts flow) o e in
+    by-passing book (orderFile S) (found-passes book S readable found) .best amounts flow o
+    (sym (find-and-run-is-run book amounts flow S found .0) ∙ e)
+
 pub demand3 : Demand3
 demand3 = record {
   finds = found-if-good;
   or-13 = refused-if-none-good;
   one-of-two = found-or-13;
-  by-returned = λ book buffer n e.
-      let its-length = written book buffer n e .its-length in
-      let runs = by-passing book _ (returned-passes book buffer n e) in
-      (its-length, subst (λ (m : ℕ). ByReturned book (take m (findBuffer book buffer))) its-length runs);
+  by-returned = λ book buffer n e. (written book buffer n e .its-length, by-passing book _ (returned-passes book buffer n e));
+  by-passing = by-passing;
+  good-passes = good-passes;
+  find-and-run = find-and-run-best;
 }

@@ -42,26 +42,28 @@ find-run-in-table (flow-too-short reads h) = (refusal.BufferTooShort, refl, refl
 find-run-in-table (no-order reads long e) = (refusal.NoOrder, refl, refl)
 
 pub found-to-run-says : (book amounts flow : List ℕ)
-    → Says (λ S. (find (problemOf book) ≡ some S) × (problemOf book .lots * problemOf book .calls ≤ length flow))
+    → Says (λ S. (find (problemOf book) ≡ some S) × (problemOf book .lots * problemOf book .calls ≤ length flow) × Readable book)
     (FindRunRefused book amounts flow) (foundToRun book amounts flow)
 unfolding foundToRun
 found-to-run-says book amounts flow =
     says-then _ (says-known (amounts-say book amounts)) (λ k vs (q, e). of-amounts q e) (λ n (_, reads).
     says-unless (flowTooShort (problemOf book) flow) 17 _ _ (λ t. flow-too-short reads (ltb→lt _ _ t)) (λ long.
-    gives-less (or-13-says book (no-order reads (nltb→le _ _ long))) (λ S found. (found, nltb→le _ _ long))))
+    let enough = nltb→le (length flow) (problemOf book .lots * problemOf book .calls) long in
+    gives-less (or-13-says book (no-order reads enough)) (λ S found. (found, enough, (n, book-of-amounts book amounts n reads)))))
 
 -- the flow buffer keeps its length
 pub length-findAndRunFlow : (book amounts flow : List ℕ) → length (findAndRunFlow book amounts flow) ≡ length flow
 unfolding findAndRunFlow
 length-findAndRunFlow book amounts flow = says-afterwards flow _ (λ s. length s ≡ length flow) (found-to-run-says book amounts flow) refl
-    (λ S (found, long). length-flowOf (problemOf book) _ flow long)
+    (λ S (found, long, _). length-flowOf (problemOf book) _ flow long)
 
 pub find-and-run-says : (book amounts flow : List ℕ)
-    → Says (λ o. (S : List Pair) × (find (problemOf book) ≡ some S) × (o ≡ outcome (problemOf book) (greedyOn book S amounts)))
+    → Says (λ o. (S : List Pair) × (find (problemOf book) ≡ some S) × Readable book
+    × (o ≡ outcome (problemOf book) (greedyOn book S amounts)))
     (FindRunRefused book amounts flow) (findAndRun book amounts flow)
 unfolding findAndRun
 find-and-run-says book amounts flow = says-then _ (found-to-run-says book amounts flow) (λ k vs q. q)
-    (λ S (found, long). giving (S, found, refl))
+    (λ S (found, long, readable). giving (S, found, readable, refl))
 
 -- the two calls take the same steps once the order is found and has passed: r reads the amounts, and `short` tests the buffer
 same-steps : {A B : Type 0} (r : Reply Size) (short : Bool) (answer : Reply A) (S : A) → answer ≡ gives S

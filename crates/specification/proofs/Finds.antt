@@ -1,6 +1,6 @@
 -- What finding an order says: the book is readable, the buffer is long enough, and the order written is the finder's. Read back it
 -- passes the check, since the finder's order is an order of the eligible pairs and a Monge sequence. Where it replies 13 there is no order.
-use mathlib.Core.Path.{_≡_, refl, _∙_, ap₂}
+use mathlib.Core.Path.{_≡_, refl, _∙_, ap}
 use mathlib.Core.List.{List, [], _++_}
 use mathlib.Core.Option.{Option, some, none}
 use Prim.Native.Nat.{ℕ, _≤_, _<_}
@@ -17,7 +17,7 @@ use Rattle.specification.specs.Reply.{gives, refuses}
 use Rattle.specification.specs.Book.{readBook, problemOf}
 use Rattle.specification.specs.OrderFile.{orderFile}
 use Rattle.specification.specs.Find.{orderLength, orderOr13, foundOrder, findOrder, findBuffer}
-use Rattle.specification.specs.Demands.{InTable, Readable, Passing}
+use Rattle.specification.specs.Demands.{InTable, Readable, Passing, returned}
 use Rattle.specification.proofs.Replies.{
   Says,
   giving,
@@ -97,13 +97,14 @@ length-findBuffer book buffer = says-afterwards buffer _ (λ s. length s ≡ len
   gave .long,
 ))
 
--- what is left in the buffer where a length is replied: the file of the finder's order up to that length, and the old bytes after it
+-- what is left in the buffer where a length is replied: the file of the finder's order up to that length, and the old bytes after it;
+-- so the returned order is that file
 pub record Written (book buffer : List ℕ) (n : ℕ) : Type 0 where
   pub order : List Pair
   pub gave : FindGave book buffer order
   pub its-length : n ≡ orderLength book
   pub contents : findBuffer book buffer ≡ orderFile order ++ drop (orderLength book) buffer
-  pub file : take n (findBuffer book buffer) ≡ orderFile order
+  pub file : returned book buffer ≡ orderFile order
 
 contents-of : (book buffer : List ℕ) (S : List Pair) → foundOrder book buffer ≡ gives S
     → findBuffer book buffer ≡ orderFile S ++ drop (orderLength book) buffer
@@ -124,7 +125,7 @@ written book buffer n e =
       gave = gave;
       its-length = long;
       contents = contents;
-      file = ap₂ take long contents ∙ file-of book buffer S (gave .found);
+      file = ap (take (orderLength book)) contents ∙ file-of book buffer S (gave .found);
     }
 
 -- each refusal is a line of the table

@@ -1,22 +1,23 @@
 -- What running an order says: the order passes, the amounts are read and the flow buffer is long enough, and the outcome and the flow
 -- are GREEDY's. What holds of every order that passes is proved here: by the theorems on Monge sequences its runs are Full exactly when
 -- some allocation meets everything, and no allocation has more units, or costs less where it meets everything.
-use mathlib.Core.Path.{_≡_, refl, sym, _∙_, ap}
-use mathlib.Core.Logic.{_⊎_, inl, inr, _↔_}
+use mathlib.Core.Path.{_≡_, refl, _∙_, ap}
+use mathlib.Core.Logic.{_⊎_, inl, inr, _↔_, Iff·trans}
 use mathlib.Core.Bool.{Bool, true, false, cond}
 use mathlib.Core.List.{List, []}
 use Prim.Native.Nat.{ℕ, _*_, _≤_, _<_}
 use native.Mathlib.Omega.{arith}
 use lib.Dec.{T, eqb, ltb→lt, nltb→le, eqb→eq}
 use lib.ListN.{length}
-use Rattle.transport.specs.Problem.{Problem, Meets, units, totalCost}
+use Rattle.transport.specs.Problem.{Problem}
 use Rattle.transport.specs.Greedy.{State}
 use Rattle.transport.specs.Finder.{every}
 use Rattle.transport.proofs.Laws.Tests.{T-true, and-says, and-of}
 use Rattle.transport.proofs.Laws.Searches.{every-says, every-of}
 use Rattle.transport.proofs.Orders.Lists.{lists-of-order}
-use Rattle.transport.proofs.Greedy.Given.{Spent, greedy-allocation, greedy-meets}
+use Rattle.transport.proofs.Greedy.Given.{Spent, greedy-allocation}
 use Rattle.transport.proofs.Greedy.Optimal.{greedy-most-units, greedy-least-cost, good-of-monge}
+use Rattle.transport.proofs.Theorems.{greedy-spends-iff}
 use Rattle.specification.specs.declared.Refusal.the-variants as refusal
 use Rattle.specification.specs.Reply.{gives, refuses, Size, Outcome, full, short}
 use Rattle.specification.specs.Book.{problemOf}
@@ -24,7 +25,7 @@ use Rattle.specification.specs.Amounts.{readAmounts, lotAmount, callAmou
 use Rattle.specification.specs.OrderFile.{orderPairs}
 use Rattle.specification.specs.Check.{checkOrder}
 use Rattle.specification.specs.Run.{greedyOn, nothingLeft, outcome, flowOf, flowTooShort, runOrder, runFlow}
-use Rattle.specification.specs.Demands.{InTable, Passing, Ran, ByReturned}
+use Rattle.specification.specs.Demands.{InTable, Passing, Ran, Best, ByPassing}
 use Rattle.specification.proofs.Replies.{
   Says,
   giving,
@@ -110,71 +111,51 @@ module _ (P : Problem) (s : State) where
   no-call-lacks : Bool
   no-call-lacks = every (P .calls) (λ j. eqb (s .lacks j) 0)
 
-  full-if-spent : Spent P s → outcome P s .verdict ≡ full
+  full-iff-spent : (outcome P s .verdict ≡ full) ↔ Spent P s
   unfolding no-lot-left no-call-lacks
-  full-if-spent spent = rw (T-true (nothingLeft P s) (and-of no-lot-left no-call-lacks
-      (every-of (P .lots) _ (λ i h. rw (spent .lot-spent i h) tt))
-      (every-of (P .calls) _ (λ j h. rw (spent .call-spent j h) tt)))) refl
-
-  spent-if-full : outcome P s .verdict ≡ full → Spent P s
-  unfolding no-lot-left no-call-lacks
-  spent-if-full e =
-      let (lots, calls) = and-says no-lot-left no-call-lacks (tested (nothingLeft P s) e) in
-      record {
-        lot-spent = λ i h. eqb→eq (s .left i) 0 (every-says (P .lots) _ lots i h);
-        call-spent = λ j h. eqb→eq (s .lacks j) 0 (every-says (P .calls) _ calls j h);
-      }
+  full-iff-spent = (
+    λ e.
+        let (lots, calls) = and-says no-lot-left no-call-lacks (tested (nothingLeft P s) e) in
+        record {
+          lot-spent = λ i h. eqb→eq (s .left i) 0 (every-says (P .lots) _ lots i h);
+          call-spent = λ j h. eqb→eq (s .lacks j) 0 (every-says (P .calls) _ calls j h);
+        },
+    λ spent. rw (T-true (nothingLeft P s) (and-of no-lot-left no-call-lacks
+        (every-of (P .lots) _ (λ i h. rw (spent .lot-spent i h) tt))
+        (every-of (P .calls) _ (λ j h. rw (spent .call-spent j h) tt)))) refl,
+  )
     where
       tested : (b : Bool) → cond b full short ≡ full → T b
       tested true e = tt
       tested false e = let z : _≡_ {A = ℕ} 0 1 = cc in absurd (omega arith)
 
 -- every order that passes is good, gives most units, and its runs are refused for the amounts or the buffer alone
-pub by-passing : (book order : List ℕ) → Passing book order → ByReturned book order
-by-passing book order passing = record {
-  good = (passing .each-once, good-of-monge (passing .each-once) (passing .monge) _);
-  most-units = λ a b within x h. greedy-most-units (passing .each-once) (passing .monge) a b h;
-  refused-only = λ amounts flow k vs e. of-run (said-of-refused (run-says book order amounts flow) k vs e);
-  units-and-cost = λ amounts flow o e. (its-units amounts flow o e, its-cost amounts flow o e);
-  full-if = λ amounts flow o e x meets.
-      verdict-is amounts flow o e ∙ full-if-spent P (by amounts) (meets-if-spent amounts .0 (met amounts x meets));
-  full-only-if = λ amounts flow o e is-full. (
-    by amounts .given,
-    meets-if-spent amounts .1 (spent-if-full P (by amounts) (sym (verdict-is amounts flow o e) ∙ is-full)),
-  );
-  least-cost = λ amounts flow o e x meets. rw (its-cost amounts flow o e)
-      (greedy-least-cost (passing .each-once) (passing .monge) (lotAmount amounts) (callAmount book amounts) meets .1);
-  greatest-units = λ amounts flow o e x h. rw (its-units amounts flow o e)
-      (greedy-most-units (passing .each-once) (passing .monge) (lotAmount amounts) (callAmount book amounts) h);
-}
-  where
-    P : Problem
-    P = problemOf book
+module _ (book order : List ℕ) (passing : Passing book order) where
+  -- the outcome of GREEDY by it, on the amounts of a file
+  passing-best : (amounts : List ℕ) → Best book amounts (outcome (problemOf book) (greedyOn book (orderPairs order) amounts))
+  passing-best amounts =
+      let P : Problem = problemOf book in
+      let by : State = greedyOn book (orderPairs order) amounts in
+      let (a, b) : (ℕ → ℕ) × (ℕ → ℕ) = (lotAmount amounts, callAmount book amounts) in
+      record {
+        verdicts = record { full-iff = Iff·trans (full-iff-spent P by) (greedy-spends-iff (passing .each-once) (passing .monge) a b) };
+        least-cost = λ x m. greedy-least-cost (passing .each-once) (passing .monge) a b m .1;
+        greatest-units = λ x h. greedy-most-units (passing .each-once) (passing .monge) a b h;
+      }
 
-    by : List ℕ → State
-    by amounts = greedyOn book (orderPairs order) amounts
-
-    meets-if-spent : (amounts : List ℕ) → Meets P (lotAmount amounts) (callAmount book amounts) (by amounts .given) ↔ Spent P (by amounts)
-    meets-if-spent amounts = greedy-meets (lists-of-order (passing .each-once)) (lotAmount amounts) (callAmount book amounts)
-
-    met : (amounts : List ℕ) (x : ℕ → ℕ → ℕ) → Meets P (lotAmount amounts) (callAmount book amounts) x
-        → Meets P (lotAmount amounts) (callAmount book amounts) (by amounts .given)
-    met amounts x meets = greedy-least-cost (passing .each-once) (passing .monge) (lotAmount amounts) (callAmount book amounts) meets .0
-
-    verdict-is : (amounts flow : List ℕ) (o : Outcome) → runOrder book order amounts flow ≡ gives o
-        → o .verdict ≡ outcome P (by amounts) .verdict
-    verdict-is amounts flow o e = ap (λ r. r .verdict) (outcome-is book order amounts flow o e)
-
-    its-units : (amounts flow : List ℕ) (o : Outcome) → runOrder book order amounts flow ≡ gives o
-        → o .units ≡ units P (by amounts .given)
-    its-units amounts flow o e = ap (λ r. r .units) (outcome-is book order amounts flow o e)
-
-    its-cost : (amounts flow : List ℕ) (o : Outcome) → runOrder book order amounts flow ≡ gives o
-        → o .cost ≡ totalCost P (by amounts .given)
-    its-cost amounts flow o e = ap (λ r. r .cost) (outcome-is book order amounts flow o e)
-
-    of-run : {amounts flow : List ℕ} {k : ℕ} {vs : List ℕ} → RunRefused book order amounts flow k vs
-        → (readAmounts book amounts ≡ refuses k vs) ⊎ ((k ≡ 17) × (length flow < P .lots * P .calls))
-    of-run (of-check q e) = absurd (not-both (check-passes book order passing) e)
-    of-run (of-amounts passing q e) = inl e
-    of-run (flow-too-short passing read h) = inr (refl, h)
+  pub by-passing : ByPassing book order
+  by-passing = record {
+    good = (passing .each-once, good-of-monge (passing .each-once) (passing .monge) _);
+    most-units = λ a b within x h. greedy-most-units (passing .each-once) (passing .monge) a b h;
+    refused-only = λ amounts flow k vs e. of-run (said-of-refused (run-says book order amounts flow) k vs e);
+    units-and-cost = λ amounts flow o e.
+        let is = outcome-is book order amounts flow o e in
+        (ap (λ r. r .units) is, ap (λ r. r .cost) is);
+    best = λ amounts flow o e. rw (outcome-is book order amounts flow o e) (passing-best amounts);
+  }
+    where
+      of-run : {amounts flow : List ℕ} {k : ℕ} {vs : List ℕ} → RunRefused book order amounts flow k vs
+          → (readAmounts book amounts ≡ refuses k vs) ⊎ ((k ≡ 17) × (length flow < problemOf book .lots * problemOf book .calls))
+      of-run (of-check q e) = absurd (not-both (check-passes book order passing) e)
+      of-run (of-amounts passing q e) = inl e
+      of-run (flow-too-short passing read h) = inr (refl, h)

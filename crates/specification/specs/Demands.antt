@@ -1,6 +1,6 @@
 -- The three demands, as types over what the entry points reply and leave in their buffers. Above each part stands the sentence it is.
 use mathlib.Core.Path.{_≡_}
-use mathlib.Core.Logic.{_⊎_}
+use mathlib.Core.Logic.{_⊎_, _↔_}
 use mathlib.Core.List.{List, [], _∷_, _++_}
 use Prim.Native.Nat.{ℕ, _+_, _*_, _%_, _^_, _≤_, _<_}
 use lib.ListN.{length, getD, take}
@@ -101,6 +101,10 @@ pub record Ran (P : Problem) (x : ℕ → ℕ → ℕ) (before after : List ℕ)
   pub units-of-flow : o .units ≡ flowUnits P after
   pub cost-of-flow : o .cost ≡ flowCost P after
 
+-- "the order file that the finder wrote, which ends at the length it replied" (document 01, Words)
+abbrev pub returned : List ℕ → List ℕ → List ℕ
+returned book buffer = take (orderLength book) (findBuffer book buffer)
+
 -- Demand 2
 pub record Demand2 : Type 0 where
   -- "Book, order and amounts are read as document 01 lays out": Book, OrderFile and Amounts of this folder are that lay-out. A book
@@ -126,11 +130,11 @@ pub record Demand2 : Type 0 where
       → Ran (problemOf book) (greedyOn book (orderPairs order) amounts .given) flow (runFlow book order amounts flow) o
   -- "an order written by the finder passes when read back"
   pub read-back : (book buffer : List ℕ) (n : ℕ) → findOrder book buffer ≡ gives n
-      → checkOrder book (take n (findBuffer book buffer)) ≡ gives (size (problemOf book))
+      → checkOrder book (returned book buffer) ≡ gives (size (problemOf book))
   -- finding and running in one call "replies and writes as the run by the order found" (document 01)
   pub find-and-run : (book buffer : List ℕ) (n : ℕ) → findOrder book buffer ≡ gives n → (amounts flow : List ℕ)
-      → (findAndRun book amounts flow ≡ runOrder book (take n (findBuffer book buffer)) amounts flow)
-      × (findAndRunFlow book amounts flow ≡ runFlow book (take n (findBuffer book buffer)) amounts flow)
+      → (findAndRun book amounts flow ≡ runOrder book (returned book buffer) amounts flow)
+      × (findAndRunFlow book amounts flow ≡ runFlow book (returned book buffer) amounts flow)
   -- and where no order exists it is refused by 13, "13 last" (document 01)
   pub find-and-run-13 : (book buffer : List ℕ) → findOrder book buffer ≡ refuses 13 [] → (amounts flow : List ℕ) (n : Size)
       → readAmounts book amounts ≡ gives n → n .lots * n .calls ≤ length flow → findAndRun book amounts flow ≡ refuses 13 []
@@ -140,12 +144,23 @@ pub record Demand2 : Type 0 where
 abbrev pub GoodOrder : List ℕ → List Pair → Type 0
 GoodOrder book S = OrderOf (problemOf book) S × Good amountLimit (problemOf book) S
 
--- "the order file that the finder wrote, which ends at the length it replied" (document 01, Words)
-abbrev pub returned : List ℕ → List ℕ → List ℕ
-returned book buffer = take (orderLength book) (findBuffer book buffer)
+-- what the verdict of an accepted run says, of the allocations of its book and amounts
+pub record Verdicts (book amounts : List ℕ) (o : Outcome) : Type 0 where
+  -- it "says Full exactly when some allocation meets everything"
+  pub full-iff : (o .verdict ≡ full) ↔ ((x : ℕ → ℕ → ℕ) × Meets (problemOf book) (lotAmount amounts) (callAmount book amounts) x)
 
--- what holds of the returned order, and of every run of the book by it
-pub record ByReturned (book order : List ℕ) : Type 0 where
+-- what its reply says besides
+pub record Best (book amounts : List ℕ) (o : Outcome) : Type 0 where
+  pub verdicts : Verdicts book amounts o
+  -- "The cost of meeting everything is least"
+  pub least-cost : (x : ℕ → ℕ → ℕ) → Meets (problemOf book) (lotAmount amounts) (callAmount book amounts) x
+      → o .cost ≤ totalCost (problemOf book) x
+  -- "and the unit count greatest"
+  pub greatest-units : (x : ℕ → ℕ → ℕ) → Allocation (problemOf book) (lotAmount amounts) (callAmount book amounts) x
+      → units (problemOf book) x ≤ o .units
+
+-- what holds of an order file that passes the check, and of every run of the book by it
+pub record ByPassing (book order : List ℕ) : Type 0 where
   -- "The returned order is good"
   pub good : GoodOrder book (orderPairs order)
   -- "Whatever the amounts within the limits, totals equal or not, every other allocation has at most as many units as GREEDY by it"
@@ -158,18 +173,8 @@ pub record ByReturned (book order : List ℕ) : Type 0 where
   pub units-and-cost : (amounts flow : List ℕ) (o : Outcome) → runOrder book order amounts flow ≡ gives o
       → (o .units ≡ units (problemOf book) (greedyOn book (orderPairs order) amounts .given))
       × (o .cost ≡ totalCost (problemOf book) (greedyOn book (orderPairs order) amounts .given))
-  -- "and says Full exactly when some allocation meets everything": when
-  pub full-if : (amounts flow : List ℕ) (o : Outcome) → runOrder book order amounts flow ≡ gives o
-      → (x : ℕ → ℕ → ℕ) → Meets (problemOf book) (lotAmount amounts) (callAmount book amounts) x → o .verdict ≡ full
-  -- and only when
-  pub full-only-if : (amounts flow : List ℕ) (o : Outcome) → runOrder book order amounts flow ≡ gives o
-      → o .verdict ≡ full → (x : ℕ → ℕ → ℕ) × Meets (problemOf book) (lotAmount amounts) (callAmount book amounts) x
-  -- "The cost of meeting everything is least": in the run's own reply
-  pub least-cost : (amounts flow : List ℕ) (o : Outcome) → runOrder book order amounts flow ≡ gives o
-      → (x : ℕ → ℕ → ℕ) → Meets (problemOf book) (lotAmount amounts) (callAmount book amounts) x → o .cost ≤ totalCost (problemOf book) x
-  -- "and the unit count greatest"
-  pub greatest-units : (amounts flow : List ℕ) (o : Outcome) → runOrder book order amounts flow ≡ gives o
-      → (x : ℕ → ℕ → ℕ) → Allocation (problemOf book) (lotAmount amounts) (callAmount book amounts) x → units (problemOf book) x ≤ o .units
+  -- and what that reply says
+  pub best : (amounts flow : List ℕ) (o : Outcome) → runOrder book order amounts flow ≡ gives o → Best book amounts o
 
 -- Demand 3
 pub record Demand3 : Type 0 where
@@ -185,4 +190,11 @@ pub record Demand3 : Type 0 where
       → (findOrder book buffer ≡ gives (orderLength book)) ⊎ (findOrder book buffer ≡ refuses 13 [])
   -- the returned order
   pub by-returned : (book buffer : List ℕ) (n : ℕ) → findOrder book buffer ≡ gives n
-      → (n ≡ orderLength book) × ByReturned book (returned book buffer)
+      → (n ≡ orderLength book) × ByPassing book (returned book buffer)
+  -- it is one of those that pass, and the same holds of each of them
+  pub by-passing : (book order : List ℕ) → Passing book order → ByPassing book order
+  -- which are the files of the good orders: one that holds a good order passes
+  pub good-passes : (book order : List ℕ) → Readable book → OrderShaped order → GoodOrder book (orderPairs order)
+      → checkOrder book order ≡ gives (orderCount order)
+  -- and of finding and running in one call
+  pub find-and-run : (book amounts flow : List ℕ) (o : Outcome) → findAndRun book amounts flow ≡ gives o → Best book amounts o
