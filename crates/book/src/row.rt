@@ -1,5 +1,6 @@
 // One lot's row. Each function is given the part of the book that starts at the lot's word, wherever in the file that is.
 use files::Step;
+use specification::COST_LIMIT;
 use specification::Call;
 use specification::Lot;
 use specification::Refusal;
@@ -35,7 +36,7 @@ fn first_above(row: &[u8], lot: Lot, calls: usize) -> Step
     let mut at = 4;
     for j in 0..calls {
         if super::word::is_set(word, j) {
-            if 1_000_000 < super::inner::cost_at(row, at) {
+            if COST_LIMIT < super::inner::cost_at(row, at) {
                 return Step::Refused(Refusal::CostTooHigh(Lot(i), Call(j)));
             }
             at += 4;
@@ -50,7 +51,7 @@ fn read_costs(row: &[u8], lot: Lot, calls: usize) -> Step
     ensures { λ r. ⌜ statedStep r ≡ readCosts (now (row .entry)) (lot .0) calls 0 ⌝ }
 {
     let costs = super::word::count(files::u32_at(row, 0));
-    if super::inner::all_within(row, 4, costs, 1_000_000) {
+    if super::inner::all_within(row, 4, costs, COST_LIMIT) {
         return Step::Passes;
     }
     first_above(row, lot, calls)

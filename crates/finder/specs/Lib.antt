@@ -5,4 +5,5 @@ pub mod Words
 pub mod Rows
 pub mod Waiting
 pub mod Work
+pub mod Ranked
 pub mod Writing

@@ -26,7 +26,7 @@ bySlacks slacks n m = record {
 
 -- no slack is above one more than the limit
 abbrev pub Capped : List ℕ → Type 0
-Capped slacks = (x : ℕ) → getD slacks x 0 ≤ 1000001
+Capped slacks = (x : ℕ) → getD slacks x 0 ≤ suc costLimit
 
 -- what such a table is to be: there is no slack at further calls
 pub record Slacks (slacks : List ℕ) (n m : ℕ) : Type 0 where

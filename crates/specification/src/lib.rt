@@ -1,5 +1,10 @@
 // The words of document 01 as types: lot and call numbers, the refusals, and the answer of each entry point.
 
+// "Costs are .. 0 to 1,000,000" and "Amounts are .. 0 to 1,000,000,000" (Words): the highest of each.
+pub const COST_LIMIT: u32 = 1_000_000;
+
+pub const AMOUNT_LIMIT: u32 = 1_000_000_000;
+
 // "A lot is known by its lot number .. counted from 0" (Words).
 pub struct Lot(pub usize);
 
