@@ -7,6 +7,7 @@ pub mod Marks
 pub mod Asking
 pub mod Taking
 pub mod Passing
+pub mod Going
 pub mod Turns
 pub mod Writes
 pub mod Books

@@ -31,6 +31,8 @@ byRanks table lotRanks callRanks n m = record {
 
 -- each lot and call has its rank, and the table and the turned one are Monge and say the same
 pub record Ranking (n m : ℕ) (lots lotRanks calls callRanks table turned : List ℕ) : Type 0 where
+  pub lots-some : 0 < n
+  pub calls-some : 0 < m
   pub lots-few : n ≤ 32
   pub calls-few : m ≤ 32
   pub lots-ranked : Renames n (λ i. getD lotRanks i 0) (λ p. getD lots p 0)

@@ -78,7 +78,7 @@ fn find_pairs(slacks: &[u32; 1024], n: usize, m: usize, total: usize, pairs: &mu
             &mut asks,
             &mut lefts,
         );
-        put(pairs, count, x);
+        put(pairs, count, Lot(x / 32), Call(x % 32));
         count += 1;
     }
     Search::Found(count)

@@ -1,18 +1,22 @@
 // The order file: the pairs that are found, and the file written from them.
+use specification::Call;
+use specification::Lot;
 ghost use mathlib.Core.Path.{_≡_};
 ghost use mathlib.Core.List.{[], _∷_, _++_};
-ghost use Prim.Native.Nat.{_+_, _*_, _/_, _%_, _≤_, _<_};
+ghost use Prim.Native.Nat.{_+_, _*_, _≤_, _<_};
 ghost use lib.ListN.{length, take, drop};
 ghost use Rattle.specification.specs.OrderFile.{pairs as pairsOf, orderFile};
 ghost use Rattle.finder.specs.Writing.{Copied};
 
-// The pair at place x becomes the next of the pairs, two bytes each.
-pub fn put(pairs: &mut [u8], count: usize, x: usize)
-    requires { ⌜ (x < 1024) × (count < 1024) × (2048 ≤ length (now pairs)) ⌝ }
-    ensures { λ r. ⌜ take (2 * (count + 1)) (now (pairs .exit)) ≡ take (2 * count) (now (pairs .entry)) ++ (x / 32 ∷ x % 32 ∷ []) ⌝ }
+// The pair becomes the next of the pairs, two bytes each.
+pub fn put(pairs: &mut [u8], count: usize, lot: Lot, call: Call)
+    requires { ⌜ (lot .0 < 32) × (call .0 < 32) × (count < 1024) × (2048 ≤ length (now pairs)) ⌝ }
+    ensures { λ r. ⌜ take (2 * (count + 1)) (now (pairs .exit)) ≡ take (2 * count) (now (pairs .entry)) ++ (lot .0 ∷ call .0 ∷ []) ⌝ }
 {
-    pairs[2 * count] = (x / 32) as u8;
-    pairs[2 * count + 1] = (x % 32) as u8;
+    let i = lot.0;
+    let j = call.0;
+    pairs[2 * count] = i as u8;
+    pairs[2 * count + 1] = j as u8;
 }
 
 // The first bytes of the source are copied into the buffer from a place on.

@@ -8,13 +8,14 @@ use Rattle.transport.specs.Finder.{next}
 use Rattle.finder.specs.Slacks.{remains, bySlacks}
 use Rattle.finder.specs.Work.{Holding}
 use Rattle.finder.proofs.Passing.{placed, next-of-first, none-of-first}
-use Rattle.finder.proofs.Turns.{Going, ends-first, holding-first, going-start, going-stop, going-done, going-next}
+use Rattle.finder.proofs.Turns.{ends-first, holding-first, going-first, gone-agrees}
+use Rattle.finder.proofs.Going.{Going, going-stop, going-done, going-next}
 use Rattle.finder.proofs.search.find_pairs.Statement.{statement}
 use Rattle.finder.proofs.search.find_pairs.Tie as tie
 
 abbrev Inv-loop : tie.InvT-loop
 Inv-loop slacks n m total pairs₀ least₀ tails₀ waits₀ lefts₀ live₀ asks₀ count₀ pairs least tails waits lefts live asks count =
-    (length pairs ≡ length pairs₀) × Going (bySlacks slacks n m) live pairs count total
+    (length pairs ≡ length pairs₀) × Going (bySlacks slacks n m) (remains live) pairs count total
     × Holding slacks n live tails least waits asks lefts
 
 abbrev μ-loop : tie.MeasureT-loop
@@ -48,7 +49,7 @@ loop-holds c =
     let a = c .before .before .before .before .before .before .before .before .args in
     let p = c .before .before .before .before .before .before .before .before .pre in (
       refl,
-      going-start (a .slacks .now) (a .n) (a .m) (p .0) _ _ (p .1),
+      going-first (a .slacks .now) (a .n) (a .m) (p .0) _ _ (p .1),
       holding-first (a .slacks .now) (a .n) (a .m) (p .0) _ _ _ (c .fill-rows .ensures) (c .before .before .before .before .fill-lefts .ensures),
     )
 
@@ -66,7 +67,7 @@ returns c =
     let a = start .args in
     let r = start .pre .0 in
     let inv = c .before .before .before .before .before .before .before .loop .inv in
-    going-stop (a .slacks .now) (a .n) (a .m) r _ _ _ _ (inv .1) (c .before .before .before .before .before .before .loop-test .taken)
+    going-stop (inv .1) (c .before .before .before .before .before .before .loop-test .taken)
     (none-of-first (a .slacks .now) (a .n) (a .m) r _ _ _ _ _ _ (inv .2) _ (c .before .first-pair .ensures .0) (c .if1 .taken))
 
 cast-take-pair : tie.Need-cast-take-pair Inv-loop μ-loop
@@ -94,7 +95,7 @@ put-requires : tie.Need-put-requires Inv-loop μ-loop
 put-requires c κs =
     let found = c .before .before .before .before .before .before .before .before in
     let inv = top found .loop .inv in
-    (place-in found, omega (arith, inv .1 .few, more found), omega (arith, inv .0, start found .pre .2))
+    (omega (arith, place-in found), omega arith, omega (arith, inv .1 .few, more found), omega (arith, inv .0, start found .pre .2))
 
 add-count : tie.Need-add-count Inv-loop μ-loop
 add-count c = let found = c .before .before .before .before .before .before .before .before .before .before .before in omega (arith, top found .loop .inv .1 .few, more found)
@@ -109,8 +110,9 @@ loop-again c =
     let inv = top found .loop .inv in
     let t = c .before .before .before .before .take-pair .ensures in (
       c .before .before .put .kept .0 ∙ inv .0,
-      going-next (a .slacks .now) (a .n) (a .m) (start found .pre .0) _ _ _ _ (inv .1) _ (place-in found) (more found) (inv .2 .live-long) (is-next found) _ _
-          (t .0) (c .before .before .put .ensures),
+      going-next (inv .1) (more found) _ (is-next found) _
+          (gone-agrees (a .slacks .now) (a .n) (a .m) (start found .pre .0) (top found .loop .live) (inv .2 .live-long) _ (place-in found) _ (t .0)) _
+          (c .before .before .put .ensures),
       t .1,
     )
 
@@ -121,7 +123,7 @@ returns-2 : tie.Need-returns-2 Inv-loop μ-loop
 returns-2 c =
     let a = c .before .before .before .before .before .before .before .before .before .before .args in
     let r = c .before .before .before .before .before .before .before .before .before .before .pre .0 in
-    going-done (a .slacks .now) (a .n) (a .m) r _ _ _ _ (c .before .loop .inv .1) (c .loop-test .left)
+    going-done (c .before .loop .inv .1) (c .loop-test .left)
 
 pub find-pairs-spec : {M : Type 1} → statement M
 find-pairs-spec =

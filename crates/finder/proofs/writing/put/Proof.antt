@@ -4,7 +4,7 @@ use Prim.Native.Nat.{_+_, _*_}
 use native.Mathlib.Omega.{arith}
 use borrow.Author.Needs.{needs}
 use lib.ListN.{length-set}
-use Rattle.finder.proofs.Turns.{pair-put}
+use Rattle.finder.proofs.Going.{pair-put}
 use Rattle.finder.proofs.writing.put.Statement.{statement}
 use Rattle.finder.proofs.writing.put.Tie as tie
 
@@ -13,8 +13,9 @@ slice-write-pairs-2 c = simp length-set (omega arith)
 
 returns : tie.Need-returns
 returns c =
-    let e : 2 * (c .args .count + 1) ≡ 2 * c .args .count + 2 = omega arith in
-    rw e (pair-put (c .args .pairs .now) (2 * c .args .count) _ _ (omega arith))
+    let a = c .args in
+    let e : 2 * (a .count + 1) ≡ 2 * a .count + 2 = omega arith in
+    rw e (pair-put (a .pairs .now) (2 * a .count) _ _ (omega arith))
 
 pub put-spec : {M : Type 1} → statement M
 put-spec =
