@@ -2,6 +2,7 @@
 //! Parts run at the same time in several threads, as the library allows. The last line is `tests: N cases, D differences`; the exit
 //! status is 0 only if D is 0, each number came, and each wrong reference was noticed.
 mod demand3;
+mod families;
 mod files;
 mod library;
 mod placing;
@@ -78,6 +79,9 @@ fn main() {
         ("random books to 16 by 16", Box::new(|c| sections::random_books(c, 2_000, 16, 6))),
         ("random books to 32 by 32", Box::new(|c| sections::random_books(c, 600, 32, 6))),
         ("largest books", Box::new(sections::largest_books)),
+        ("families to 12 by 12", Box::new(|c| families::families(c, 6, &[1, 2, 3, 4, 5, 6, 7, 8, 9, 10, 11, 12]))),
+        ("families to 31 by 31", Box::new(|c| families::families(c, 2, &[14, 24, 31]))),
+        ("families to 32 by 32", Box::new(|c| families::families(c, 2, &[1, 2, 17, 32]))),
         ("limits", Box::new(sections::limits)),
         ("long orders", Box::new(sections::long_orders)),
         ("demand 3 by brute force", Box::new(demand3::demand3)),

@@ -69,7 +69,7 @@ fn monge(random: &mut Random, lots: usize, calls: usize) -> Costs {
     (0..lots).map(|i| (0..calls).map(|j| Some(top + a[i] + b[j] - w * (i * j) as u64)).collect()).collect()
 }
 
-fn permuted(random: &mut Random, mut costs: Costs) -> Costs {
+pub fn permuted(random: &mut Random, mut costs: Costs) -> Costs {
     let mut columns: Vec<usize> = (0..costs[0].len()).collect();
     random.shuffle(&mut columns);
     random.shuffle(&mut costs);
@@ -179,7 +179,7 @@ pub fn damaged(file: &[u8]) -> Vec<Vec<u8>> {
 }
 
 /// A short file with a byte changed, and then cut at each byte or lengthened by one: which of two refusals comes first.
-fn damaged_twice(file: &[u8]) -> impl Iterator<Item = Vec<u8>> + use<'_> {
+fn damaged_twice(file: &[u8]) -> impl Iterator<Item = Vec<u8>> + '_ {
     let longer = [file, &[0]].concat();
     let changes = if file.len() < 64 { 0..file.len() } else { 0..0 };
     changes.flat_map(move |at| {
