@@ -1,5 +1,5 @@
 // Measures the entry points beside LEMON, CLP and GLPK in one process, in interleaved rounds, and compares every answer.
-//   bench time      a line a figure:  time FAMILY SIZE CALL MEDIAN QUIETEST   (microseconds a call, tabs between fields)
+//   bench time      a line a figure:  time FAMILY SIZE CALL MEDIAN   (microseconds a call, tabs between fields)
 //   bench count     under callgrind: one dump of instruction counts for each family and call at 32
 // The exit status is 1 if any answer differs.
 #include <placer.h>
@@ -119,7 +119,7 @@ static void time_family(const char *family, int size) {
         }
     for (size_t c = 0; c < std::size(calls); c++) {
         std::sort(times[c].begin(), times[c].end());
-        std::printf("time\t%s\t%d\t%s\t%.2f\t%.2f\n", family, size, calls[c].name, times[c][times[c].size() / 2], times[c][0]);
+        std::printf("time\t%s\t%d\t%s\t%.3f\n", family, size, calls[c].name, times[c][times[c].size() / 2]);
     }
     std::fflush(stdout);
 }

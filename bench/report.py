@@ -1,6 +1,7 @@
 """Writes docs/BENCHMARKS.md and docs/benchmarks.svg from the figures of bench: report.py FOLDER DOCS.
 
-FOLDER holds times.txt, as `bench time` prints it, and the dumps of `bench count` under callgrind, if that was run.
+FOLDER holds times.1.txt and on, as `bench time` prints them, stack.txt, as tests/stack.c does, and the dumps of `bench count` under
+callgrind, if that was run.
 """
 
 import math
@@ -9,6 +10,7 @@ import re
 import subprocess
 import sys
 from pathlib import Path
+from statistics import median
 
 FAMILIES = {
     "natural": "Monge costs in natural order, all pairs eligible",
@@ -24,16 +26,17 @@ LINES = {"run_order": "#0072b2", "find_and_run": "#009e73", "LEMON": "#d55e00", 
 
 HEAD = """# Benchmarks
 
-Written by `bench/run` from one run of it; run it again to renew this page. Not a part of the gate.
+Written by `bench/run`; run it again to renew this page. Not a part of the gate.
 
-- Each figure is the median over 21 interleaved rounds in one process (CLP and GLPK: 3), a round being one pass over 64 different books
-  of the family (CLP and GLPK: 8), so that no branch is learnt by heart. Microseconds of processor time a call.
+- The timing program runs {runs} times, one run after another. In a run a figure is the median over 21 interleaved rounds in one process (CLP
+  and GLPK: 3), a round being one pass over 64 different books of the family (CLP and GLPK: 8), so that no branch is learnt by heart. The
+  tables show the median of the {runs} runs, and the lowest and highest of them. No run is left out.
+- Microseconds are of processor time a call. A ratio is of two figures of the same run, and the median is taken of the ratios.
 - Our calls start from the bytes of the files and end with the flow; `run_order` checks the order each time. The solvers are handed
   lists of pairs in memory, build their problem and solve it. LEMON is its network simplex with 64-bit numbers.
 - Lots and calls are equal in number. The amounts are such that some allocation meets everything, so that every solver has an answer.
-- Machine: one core of a {cores}-core {machine} Linux server that others were using; {compiler} -O3, for any x86-64. Differences
-  under 15 % mean nothing. In some runs, when the server's other users were busy, our calls took twice as long and LEMON's half as
-  long again; the instruction counts below do not depend on them.
+- Machine: one core of a {cores}-core {machine} Linux server that others may have been using; {compiler} -O3, for any x86-64. What others run
+  beside it changes the times, which the spread shows; the instruction counts do not depend on it.
 - {compared:,} answers (units and cost) were compared with LEMON's; {differing} differ.
 """
 
@@ -49,11 +52,28 @@ def table(head, rows):
     return "".join("| " + " | ".join(map(str, line)) + " |\n" for line in lines)
 
 
-def read_times(path):
-    """Return the medians by family, size and call, and the counts of answers compared and differing."""
-    lines = [line.split("\t") for line in path.read_text().splitlines()]
-    times = {(line[1], int(line[2]), line[3]): float(line[4]) for line in lines if line[0] == "time"}
-    return times, [int(number) for number in next(line for line in lines if line[0] == "answers")[1:]]
+def spread(values):
+    """Return the lowest and the highest of the runs."""
+    return f"{quantity(min(values))} to {quantity(max(values))}"
+
+
+def read_times(folder):
+    """Return the figures of the runs by family, size and call, and the counts of answers compared and differing."""
+    times, answers = {}, [0, 0]
+    for path in sorted(folder.glob("times.*.txt")):
+        for line in path.read_text().splitlines():
+            kind, *fields = line.split("\t")
+            if kind == "time":
+                times.setdefault((fields[0], int(fields[1]), fields[2]), []).append(float(fields[3]))
+            elif kind == "answers":
+                answers = [count + int(more) for count, more in zip(answers, fields)]
+    return times, answers
+
+
+def read_stack(path):
+    """Return the bytes of stack by call, and the header's bound."""
+    text = path.read_text()
+    return re.findall(r"^stack: (.*) takes (\d+) bytes$", text, re.M), int(re.search(r"the header says (\d+)", text)[1])
 
 
 def read_counts(folder):
@@ -68,28 +88,55 @@ def read_counts(folder):
     return counts
 
 
-def page(times, answers, counts):
+def times_tables(times):
+    """Return the tables of times at 32: the medians, and the spread."""
+    text = "\n## 32 lots and 32 calls, microseconds\n\n"
+    text += table(["", *CALLS], [[name, *(quantity(median(times[name, 32, call])) for call in CALLS)] for name in FAMILIES])
+    text += "\nThe lowest and highest of the runs:\n\n"
+    text += table(["", *CALLS], [[name, *(spread(times[name, 32, call]) for call in CALLS)] for name in FAMILIES])
+    return text + "\n![Microseconds a call by size, for each family](benchmarks.svg)\n"
+
+
+def ratio_table(times, call):
+    """Return how many times faster than LEMON a call is, at each size: the median of the runs, and the spread."""
+    ratios = {
+        (name, size): [lemon / ours for lemon, ours in zip(times[name, size, "LEMON"], times[name, size, call])]
+        for name in FAMILIES
+        for size in SIZES
+    }
+    rows = [[name, *(f"{quantity(median(ratios[name, size]))} ({spread(ratios[name, size])})" for size in SIZES)] for name in FAMILIES]
+    slower = sum(median(values) < 1 for values in ratios.values())
+    at_worst = sum(min(values) < 1 for values in ratios.values())
+    text = table([f"`{call}`", *SIZES], rows)
+    return text + f"\nBelow 1 LEMON is faster: in {slower} of these {len(ratios)} cases. By the lowest ratio of the runs: in {at_worst}.\n"
+
+
+def stack_table(calls, bound):
+    """Return the stack that each call takes."""
+    text = "\n## Stack a call, bytes\n\n"
+    text += "On the largest book, and for the finder also on that book less one pair, which it searches in another way.\n"
+    text += f"By `tests/stack.c`, which fails above the bound in `placer.h`, {bound:,}.\n\n"
+    return text + table(["call", "bytes"], [[name, f"{int(count):,}"] for name, count in calls])
+
+
+def page(times, answers, counts, stack):
     """Return the text of docs/BENCHMARKS.md."""
     compiler = subprocess.run(["g++", "-dumpfullversion"], capture_output=True, text=True, check=True).stdout.strip()
     machine = {"cores": os.cpu_count(), "machine": os.uname().machine, "compiler": f"g++ {compiler}"}
-    text = HEAD.format(**machine, compared=answers[0], differing=answers[1])
+    runs = len(times["natural", 32, "LEMON"])
+    text = HEAD.format(**machine, runs=runs, compared=answers[0], differing=answers[1])
     text += "\nThe families:\n\n" + "".join(f"- *{name}*: {what}.\n" for name, what in FAMILIES.items())
-    text += "\n## 32 lots and 32 calls, microseconds\n\n"
-    text += table(["", *CALLS], [[name, *(quantity(times[name, 32, call]) for call in CALLS)] for name in FAMILIES])
-    text += "\n![Microseconds a call by size, for each family](benchmarks.svg)\n"
+    text += times_tables(times)
     for call, title in (("run_order", "Placing by an order that is kept"), ("find_and_run", "Finding an order and placing, in one call")):
-        text += f"\n## {title}: how many times faster than LEMON\n\n"
-        ratio = {(name, size): times[name, size, "LEMON"] / times[name, size, call] for name in FAMILIES for size in SIZES}
-        text += table([f"`{call}`", *SIZES], [[name, *(quantity(ratio[name, size]) for size in SIZES)] for name in FAMILIES])
-        text += f"\nBelow 1 LEMON is faster: in {sum(value < 1 for value in ratio.values())} of these {len(ratio)} cases.\n"
+        text += f"\n## {title}: how many times faster than LEMON\n\n" + ratio_table(times, call)
     for solver in ("CLP", "GLPK"):
-        ratios = [times[name, 32, solver] / times[name, 32, "find_and_run"] for name in FAMILIES]
+        ratios = [median(times[name, 32, solver]) / median(times[name, 32, "find_and_run"]) for name in FAMILIES]
         text += f"\nAt 32 `find_and_run` takes {quantity(min(ratios))} to {quantity(max(ratios))} times less than {solver}.\n"
     if counts:
         text += "\n## Instructions a call at 32, thousands\n\n"
         text += "By callgrind, over 8 books of each family; these do not depend on the machine's load.\n\n"
         text += table(["", *CALLS], [[name, *(quantity(counts[name, call] / 1000) for call in CALLS)] for name in FAMILIES])
-    return text
+    return text + stack_table(*stack)
 
 
 def panel(name, times, low, high):
@@ -130,10 +177,10 @@ def plot(times):
 def main():
     """Write both files, and print the page."""
     folder, docs = map(Path, sys.argv[1:3])
-    times, answers = read_times(folder / "times.txt")
-    text = page(times, answers, read_counts(folder))
+    times, answers = read_times(folder)
+    text = page(times, answers, read_counts(folder), read_stack(folder / "stack.txt"))
     (docs / "BENCHMARKS.md").write_text(text)
-    (docs / "benchmarks.svg").write_text(plot(times))
+    (docs / "benchmarks.svg").write_text(plot({key: median(values) for key, values in times.items()}))
     print(text)
 
 
