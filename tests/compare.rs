@@ -44,7 +44,10 @@ fn run_all(parts: &[(Wrong, Work)]) -> Vec<Outcome> {
         for _ in 0..workers {
             scope.spawn(|| loop {
                 let k = next.fetch_add(1, Ordering::Relaxed);
-                let Some((wrong, work)) = parts.get(k) else { break };
+                let (wrong, work) = match parts.get(k) {
+                    Some(part) => part,
+                    None => break,
+                };
                 let done = outcome(*wrong, work);
                 outcomes.lock().unwrap().push((k, done));
             });

@@ -22,7 +22,7 @@ struct Guarded {
 
 impl Guarded {
     fn new(room: usize) -> Guarded {
-        let size = (room + STRIP.len()).div_ceil(PAGE) * PAGE;
+        let size = (room + STRIP.len() + PAGE - 1) / PAGE * PAGE;
         unsafe {
             let start = mmap(std::ptr::null_mut(), size + PAGE, 3, 0x22, -1, 0);
             assert!(start as isize != -1, "no memory");
@@ -33,7 +33,7 @@ impl Guarded {
     }
 
     fn start<T>(&self, items: &[T]) -> *mut T {
-        unsafe { self.end.sub(size_of_val(items)) as *mut T }
+        unsafe { self.end.sub(std::mem::size_of_val(items)) as *mut T }
     }
 
     fn put<T: Copy>(&self, items: &[T]) -> (*mut T, usize) {

@@ -219,7 +219,7 @@ impl Wrong {
 
     /// The first failure 11 or 12: by the place of (i, j), then k rising, then l rising.
     fn first_failure(self, book: &Book, pairs: &[Pair], places: &Places) -> Result<(), Refused> {
-        let after = |lot: usize, call: usize, place: usize| places[lot][call].is_some_and(|other| other > place);
+        let after = |lot: usize, call: usize, place: usize| places[lot][call].map_or(false, |other| other > place);
         let exchanged = self == Wrong::FailureByCallThenLot;
         let (outer, inner) = if exchanged { (book.calls, book.lots) } else { (book.lots, book.calls) };
         for (place, &(i, j)) in pairs.iter().enumerate() {
