@@ -58,7 +58,7 @@ extern "C" {
 #define PLACER_ORDER_MAX 2055
 #define PLACER_AMOUNTS_MAX 263
 #define PLACER_FLOW_MAX 1024 /* entries: always enough */
-#define PLACER_STACK 163840  /* bytes: no call takes more (measured; the finder takes most) */
+#define PLACER_STACK 24576   /* bytes: no call takes more (measured; the finder takes most) */
 
 /* The refusals, by their numbers. In brackets the values that stand in `values`, from values[0] on. */
 enum placer_number {
@@ -149,6 +149,13 @@ placer_reply placer_read_amounts(const uint8_t *book, size_t book_len, const uin
  *   lot       any number
  *   returns   the stretch; 0, 0 where it is empty: the book is refused, the lot is n or more, or no call is eligible for it */
 placer_stretch placer_lot_costs(const uint8_t *book, size_t book_len, size_t lot);
+
+/* placer_pair_cost: what a unit costs on one pair.
+ *   book        read
+ *   lot, call   any numbers
+ *   accepted    values: 1 and the cost where the pair is eligible; 0 and 0 where it is not, the lot is n or more, or the call m or more
+ *   refused     the book's numbers */
+placer_reply placer_pair_cost(const uint8_t *book, size_t book_len, size_t lot, size_t call);
 
 /* placer_sentence: a refusal in English; of another number, "not a number of this library". The text is constant. */
 static inline const char *placer_sentence(uint32_t number)

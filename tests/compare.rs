@@ -44,12 +44,13 @@ fn run_all(parts: &[(Wrong, Work)]) -> Vec<Outcome> {
         for _ in 0..workers {
             scope.spawn(|| loop {
                 let k = next.fetch_add(1, Ordering::Relaxed);
-                let (wrong, work) = match parts.get(k) {
-                    Some(part) => part,
+                match parts.get(k) {
+                    Some((wrong, work)) => {
+                        let done = outcome(*wrong, work);
+                        outcomes.lock().unwrap().push((k, done));
+                    }
                     None => break,
-                };
-                let done = outcome(*wrong, work);
-                outcomes.lock().unwrap().push((k, done));
+                }
             });
         }
     });

@@ -2,8 +2,8 @@
 //! inaccessible page begins, and has a strip of known bytes before it.
 use crate::reference::{Refused, Run, Wrong};
 use crate::sys::{
-    placer_check_order, placer_find_and_run, placer_find_order, placer_lot_costs, placer_read_amounts, placer_read_book, placer_run_order,
-    Reply,
+    placer_check_order, placer_find_and_run, placer_find_order, placer_lot_costs, placer_pair_cost, placer_read_amounts, placer_read_book,
+    placer_run_order, Reply,
 };
 use std::ffi::c_void;
 
@@ -138,6 +138,12 @@ impl Comparison {
             let got = unsafe { placer_lot_costs(b.0, b.1, lot) };
             reply(Ok((0, vec![got.start as u64, got.len as u64])))
         });
+    }
+
+    pub fn pair_cost(&mut self, book: &[u8], lot: usize, call: usize) {
+        let expected = reply(self.wrong.pair_cost(book, lot, call).map(|(eligible, cost)| (0, vec![eligible, cost])));
+        let lent = Lent { book, ..Lent::default() };
+        self.compare("pair_cost", lent, expected, lent, |b, _, _, _| unsafe { placer_pair_cost(b.0, b.1, lot, call) });
     }
 
     pub fn read_amounts(&mut self, book: &[u8], amounts: &[u8]) {

@@ -34,7 +34,9 @@ wrong! {
     MissingPairAfterCheck
     CountForLength
     StretchWithWord
-    EmptyStretchInPlace
+    EmptyStretchAtRow
+    PairTurnedRound
+    NotEligibleCostsNothing
 }
 
 /// A refusal: its number and its values.
@@ -146,11 +148,22 @@ impl Wrong {
                 let count = book.costs[lot].iter().flatten().count();
                 match self {
                     Wrong::StretchWithWord => (book.words[lot], 4 + 4 * count),
-                    _ if count == 0 && self != Wrong::EmptyStretchInPlace => (0, 0),
+                    _ if count == 0 && self != Wrong::EmptyStretchAtRow => (0, 0),
                     _ => (book.words[lot] + 4, 4 * count),
                 }
             }
             _ => (0, 0),
+        }
+    }
+
+    /// Whether a pair is eligible, 1 or 0, and its cost or 0.
+    pub fn pair_cost(self, file: &[u8], lot: usize, call: usize) -> Result<(u64, u64), Refused> {
+        let book = self.read_book(file)?;
+        let (lot, call) = if self == Wrong::PairTurnedRound { (call, lot) } else { (lot, call) };
+        match book.costs.get(lot).and_then(|row| row.get(call)) {
+            Some(Some(cost)) => Ok((1, *cost)),
+            Some(None) if self == Wrong::NotEligibleCostsNothing => Ok((1, 0)),
+            _ => Ok((0, 0)),
         }
     }
 

@@ -136,7 +136,7 @@ pub fn pairs(costs: &Costs) -> Vec<Pair> {
     each.filter(|&(i, j)| costs[i][j].is_some()).collect()
 }
 
-/// All lists of so many items, each from `choices`.
+/// All lists of `count` items, each from `choices`.
 pub fn all<T: Copy>(choices: &[T], count: usize) -> Vec<Vec<T>> {
     (0..count).fold(vec![Vec::new()], |lists, _| {
         lists.iter().flat_map(|list| choices.iter().map(move |&c| list.iter().copied().chain([c]).collect())).collect()

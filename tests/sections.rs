@@ -11,11 +11,19 @@ fn some_order(costs: &Costs) -> Vec<Pair> {
     Wrong::Nothing.read_book(&book_file(costs)).ok().and_then(|book| Wrong::Nothing.find(&book)).unwrap_or_else(|| pairs(costs))
 }
 
-/// Reading, the stretch of each lot, and the finder with buffers of each length about the limit.
+/// The cost of every pair of a book, and of pairs next to them.
+fn all_pairs(c: &mut Comparison, book: &[u8]) {
+    let (lots, calls) = (book[5] as usize, book[6] as usize);
+    (0..lots + 1).for_each(|lot| (0..calls + 1).for_each(|call| c.pair_cost(book, lot, call)));
+}
+
+/// Reading, the stretch of each lot, the cost of a pair of each, and the finder with buffers of each length about the limit.
 fn read_and_find(c: &mut Comparison, random: &mut Random, book: &[u8], lengths: impl Iterator<Item = usize>) {
     c.read_book(book);
-    let lots = book.get(5).map_or(0, |&lots| lots as usize % 34);
+    let (lots, calls) = book.get(5..7).map_or((0, 0), |counts| (counts[0] as usize % 34, counts[1] as usize % 34));
     (0..lots + 2).chain(FAR).for_each(|lot| c.lot_costs(book, lot));
+    (0..lots + 2).for_each(|lot| c.pair_cost(book, lot, (lot + book.len()) % (calls + 2)));
+    FAR.iter().for_each(|&far| [(far, 0), (0, far)].iter().for_each(|&(lot, call)| c.pair_cost(book, lot, call)));
     lengths.for_each(|length| c.find_order(book, &random.bytes(length)));
 }
 
@@ -27,6 +35,7 @@ pub fn small_books(c: &mut Comparison) {
             let book = book_file(&costs);
             let own = pairs(&costs);
             read_and_find(c, random, &book, 0..7 + 2 * own.len() + 4);
+            all_pairs(c, &book);
             for order in permutations(&own) {
                 c.check_order(&book, &order_file(&order));
                 for at in 0..order.len() {
@@ -122,6 +131,7 @@ pub fn largest_books(c: &mut Comparison) {
 pub fn damage(c: &mut Comparison, books: &[Vec<u8>]) {
     let random = &mut Random(3);
     for book in books {
+        all_pairs(c, book);
         let (lots, calls) = (book[5] as usize, book[6] as usize);
         let costs = Wrong::Nothing.read_book(book).unwrap_or_else(|_| unreachable!()).costs;
         let order = order_file(&some_order(&costs));
@@ -152,7 +162,7 @@ pub fn damage(c: &mut Comparison, books: &[Vec<u8>]) {
     }
 }
 
-/// Costs and amounts at their limits in each place, and the largest book.
+/// Costs and amounts at their limits, each in turn, and the largest book.
 pub fn limits(c: &mut Comparison) {
     let random = &mut Random(4);
     for (lots, calls) in [(1, 1), (2, 3), (1, 32), (32, 1)] {
@@ -185,6 +195,7 @@ pub fn limits(c: &mut Comparison) {
         c.find_and_run(&book, &amounts, &random.entries(length));
     }
     read_and_find(c, random, &book, 2053..2058);
+    all_pairs(c, &book);
     for more in [1, 2, 1000, 4300] {
         c.read_book(&[&book[..], &vec![0; more]].concat());
         c.read_amounts(&book, &[&amounts[..], &vec![0; more]].concat());

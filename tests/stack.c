@@ -24,6 +24,7 @@ static void put(uint8_t *at, uint32_t value)
 static void *nothing(void *unused) { return unused; }
 static void *read_book(void *unused) { return last = placer_read_book(book, sizeof book), unused; }
 static void *lot_costs(void *unused) { return last.values[0] = placer_lot_costs(book, sizeof book, 31).len, unused; }
+static void *pair_cost(void *unused) { return last = placer_pair_cost(book, sizeof book, 31, 31), unused; }
 static void *read_amounts(void *unused) { return last = placer_read_amounts(book, sizeof book, amounts, sizeof amounts), unused; }
 static void *check_order(void *unused) { return last = placer_check_order(book, sizeof book, order, sizeof order), unused; }
 static void *find_order(void *unused) { return last = placer_find_order(book, sizeof book, order, sizeof order), unused; }
@@ -64,6 +65,7 @@ int main(void)
         uint32_t number;
     } calls[] = {{"read_book", read_book, 0},
                  {"lot_costs", lot_costs, 0},
+                 {"pair_cost", pair_cost, 0},
                  {"read_amounts", read_amounts, 0},
                  {"check_order, failing", check_order, PLACER_CROSS_SUM_TOO_HIGH},
                  {"find_order", find_order, 0},

@@ -28,7 +28,7 @@ class _Stretch(ctypes.Structure):
     _fields_ = [("start", ctypes.c_size_t), ("len", ctypes.c_size_t)]
 
 
-def _places() -> Iterator[str]:
+def _paths() -> Iterator[str]:
     """Where the library may be, the first found being taken."""
     here = Path(__file__).resolve()
     folders = [here.parent] + [parent / "build" for parent in list(here.parents)[3:4]]
@@ -39,7 +39,7 @@ def _places() -> Iterator[str]:
 @functools.lru_cache(maxsize=None)
 def library() -> ctypes.CDLL:
     """Return the loaded library: that of PLACER_LIBRARY, beside the package, in the repository's build folder, or the system's."""
-    path = os.environ.get("PLACER_LIBRARY") or next(_places())
+    path = os.environ.get("PLACER_LIBRARY") or next(_paths())
     try:
         loaded = ctypes.CDLL(path)
     except OSError as error:
@@ -49,6 +49,7 @@ def library() -> ctypes.CDLL:
         function = getattr(loaded, "placer_" + name)
         function.argtypes, function.restype = file * files, _Reply
     loaded.placer_lot_costs.argtypes, loaded.placer_lot_costs.restype = file + [ctypes.c_size_t], _Stretch
+    loaded.placer_pair_cost.argtypes, loaded.placer_pair_cost.restype = file + [ctypes.c_size_t] * 2, _Reply
     return loaded
 
 
@@ -82,9 +83,9 @@ def apart(lent: Tuple[Any, int], *files: Tuple[Any, int]) -> None:
             raise ValueError("the buffer to write overlaps a file that is read")
 
 
-def call(name: str, *slices: Tuple[Any, int]) -> Tuple[int, Tuple[int, ...]]:
+def call(name: str, *arguments: Tuple[Any, ...]) -> Tuple[int, Tuple[int, ...]]:
     """Return the verdict and the four values of `placer_` + name; raise Refused if its number is not 0."""
-    reply = getattr(library(), "placer_" + name)(*(word for part in slices for word in part))
+    reply = getattr(library(), "placer_" + name)(*(word for part in arguments for word in part))
     if reply.number:
         raise Refused(reply.number, tuple(reply.values))
     return reply.verdict, tuple(reply.values)

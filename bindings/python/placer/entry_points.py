@@ -55,6 +55,13 @@ def read_book(book: BytesLike) -> Counts:
     return Counts(*_library.call("read_book", _library.lend(book))[1][:2])
 
 
+def _sized(name: str, number: int) -> int:
+    """Return the number of a lot or a call, if the library can be handed it."""
+    if not 0 <= operator.index(number) < 2**64:
+        raise ValueError(f"a {name} number is 0 or more, and fits 64 bits")
+    return number
+
+
 def lot_costs(book: BytesLike, lot: int) -> memoryview:
     """Return the costs of one lot: that stretch of the caller's own book, not copied.
 
@@ -73,9 +80,27 @@ def lot_costs(book: BytesLike, lot: int) -> memoryview:
         >>> list(lot_costs(book, 2))
         []
     """
-    if not 0 <= operator.index(lot) < 2**64:
-        raise ValueError("a lot number is 0 or more, and fits 64 bits")
+    _sized("lot", lot)
     return memoryview(book).cast("B")[_library.stretch(_library.lend(book), lot)].cast("I")
+
+
+def pair_cost(book: BytesLike, lot: int, call: int) -> Optional[int]:
+    """Return the cost of one pair, in hundredths of a cent per unit.
+
+    Returns:
+        The cost; None if the pair is not eligible, if the lot number is n or more, or if the call number is m or more.
+
+    Raises:
+        Refused: 1 to 8, the first of document 01's sequence that applies.
+        ValueError: a number is below 0 or does not fit 64 bits.
+
+    Examples:
+        >>> book = book_bytes([[1, None], [3, 5]])
+        >>> pair_cost(book, 1, 0), pair_cost(book, 0, 1), pair_cost(book, 2, 0)
+        (3, None, None)
+    """
+    eligible, cost = _library.call("pair_cost", _library.lend(book), (_sized("lot", lot), _sized("call", call)))[1][:2]
+    return cost if eligible else None
 
 
 def read_amounts(book: BytesLike, amounts: BytesLike) -> Counts:

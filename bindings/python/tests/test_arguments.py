@@ -49,6 +49,19 @@ class Arguments(Case):
         self.assertRaises(TypeError, placer.lot_costs, BOOK, 0.0)
         self.assertEqual(list(placer.lot_costs(book_bytes([[None], [4]]), 0)), [])
 
+    def test_pair_numbers(self):
+        """A pair outside has no cost; a number below 0 or above 64 bits is an error."""
+        self.assertEqual([placer.pair_cost(BOOK, *pair) for pair in ((0, 0), (0, 1), (1, 0), (1, 1))], [1, 2, 3, 5])
+        for outside in (2, 32, 255, 256, 2**32, 2**32 + 1, 2**64 - 1):
+            for pair in ((outside, 0), (0, outside), (outside, outside)):
+                self.assertIsNone(placer.pair_cost(BOOK, *pair))
+        for bad in (-1, 2**64):
+            self.assertRaises(ValueError, placer.pair_cost, BOOK, bad, 0)
+            self.assertRaises(ValueError, placer.pair_cost, BOOK, 0, bad)
+        self.assertRaises(TypeError, placer.pair_cost, BOOK, 0, 0.0)
+        self.assertEqual(placer.pair_cost(book_bytes([[None, 0]]), 0, 1), 0)
+        self.assertIsNone(placer.pair_cost(book_bytes([[None, 0]]), 0, 0))
+
     def test_no_files(self):
         """What is not bytes-like is a TypeError."""
         for bad in (None, 7, "CLB", [67, 76]):

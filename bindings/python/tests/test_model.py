@@ -56,6 +56,7 @@ class Model(unittest.TestCase):
                 failure = model.check(costs, pairs)
                 self.assertEqual(self.reply(placer.check_order, book, order_bytes(pairs)), failure or len(pairs))
             self.assertEqual(placer.book_costs(book), costs)
+            self.assertEqual([[placer.pair_cost(book, lot, call) for call in range(len(row))] for lot, row in enumerate(costs)], costs)
         self.assertGreater(min(found, full), 50)
 
 

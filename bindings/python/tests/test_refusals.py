@@ -67,6 +67,8 @@ class Refusals(Case):
             self.refused(number, values, placer.run_order, book, b"", b"", flow)
             self.refused(number, values, placer.find_and_run, book, b"", flow)
             self.assertEqual(len(placer.lot_costs(book, 0)), 0)
+            self.refused(number, values, lambda file: placer.pair_cost(file, 0, 0), book)
+            self.refused(number, values, lambda file: placer.pair_cost(file, 32, 2**64 - 1), book)
 
     def test_orders(self):
         """A refused order, also where the amounts would be refused."""

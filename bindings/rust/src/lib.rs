@@ -6,7 +6,7 @@
 //!
 //! The three files are byte slices, laid out as `include/placer.h` says. Every function takes any bytes: it accepts, or refuses by the
 //! first [`Refusal`] in the published sequence. A buffer is written only where the call accepts. Nothing is allocated or kept, nothing
-//! panics, and calls may run in any number of threads. A call takes at most 160 KiB of stack. For x86-64 Linux.
+//! panics, and calls may run in any number of threads. A call takes at most 24 KiB of stack. For x86-64 Linux.
 //!
 //! Proved: every reply and every buffer, for all inputs; that the order found is good, and that one is found whenever a good one exists.
 //! Trusted: the Rattle checker and compiler, this crate's declarations, rustc and the linker.
@@ -30,7 +30,7 @@
 //! assert_eq!(run_order(book, &order[..length], amounts, &mut flow)?, placed);
 //! # Ok::<(), placer::Refusal>(())
 //! ```
-#![no_std]
+#![cfg_attr(not(feature = "std"), no_std)]
 #![deny(missing_docs)]
 
 mod refusal;
@@ -43,11 +43,11 @@ use sys::Reply;
 pub const SIDE_MAX: usize = 32;
 /// The length of the largest book, in bytes.
 pub const BOOK_MAX: usize = 4231;
-/// A buffer of so many bytes is long enough for every order.
+/// The length of the longest order, in bytes: a buffer of this length is long enough for every order.
 pub const ORDER_MAX: usize = 2055;
 /// The length of the largest amounts file, in bytes.
 pub const AMOUNTS_MAX: usize = 263;
-/// A flow buffer of so many entries is long enough for every book.
+/// The entries of the largest flow: a buffer of this many is long enough for every book.
 pub const FLOW_MAX: usize = 1024;
 
 /// The counts of a book.
@@ -122,6 +122,23 @@ pub fn read_book(book: &[u8]) -> Result<Size, Refusal> {
 pub fn lot_costs(book: &[u8], lot: usize) -> &[u8] {
     let stretch = unsafe { sys::placer_lot_costs(book.as_ptr(), book.len(), lot) };
     book.get(stretch.start..stretch.start + stretch.len).unwrap_or_default()
+}
+
+/// The cost of a pair, in hundredths of a cent per unit; `None` if the pair is not eligible, or its lot or call is not in the book.
+///
+/// # Errors
+/// Refusals 1 to 8 of the book.
+///
+/// ```
+/// let book = b"CLB\x01\0\x01\x02\x02\0\0\0\x05\0\0\0";
+/// assert_eq!(placer::pair_cost(book, 0, 1), Ok(Some(5)));
+/// assert_eq!(placer::pair_cost(book, 0, 0), Ok(None));
+/// assert_eq!(placer::pair_cost(book, 1, 1), Ok(None));
+/// assert_eq!(placer::pair_cost(&book[..14], 0, 1), Err(placer::Refusal::EndsEarly));
+/// ```
+pub fn pair_cost(book: &[u8], lot: usize, call: usize) -> Result<Option<u32>, Refusal> {
+    let reply = unsafe { sys::placer_pair_cost(book.as_ptr(), book.len(), lot, call) };
+    accepted(reply, |[eligible, cost]| (eligible == 1).then_some(cost as u32))
 }
 
 /// Reads amounts with their book: the counts.

@@ -17,6 +17,7 @@ pub struct Stretch {
 extern "C" {
     pub fn placer_read_book(book: *const u8, book_len: usize) -> Reply;
     pub fn placer_lot_costs(book: *const u8, book_len: usize, lot: usize) -> Stretch;
+    pub fn placer_pair_cost(book: *const u8, book_len: usize, lot: usize, call: usize) -> Reply;
     pub fn placer_read_amounts(book: *const u8, book_len: usize, amounts: *const u8, amounts_len: usize) -> Reply;
     pub fn placer_check_order(book: *const u8, book_len: usize, order: *const u8, order_len: usize) -> Reply;
     pub fn placer_run_order(

@@ -1,5 +1,6 @@
-// One amount of an amounts file, and the file for a book that was read: told its n and m.
+// Amounts as numbers, and the reading of the file once its book's n and m are known.
 use files::Step;
+use specification::AMOUNT_LIMIT;
 use specification::Counts;
 use specification::Refusal;
 ghost use mathlib.Core.Path.{_≡_};
@@ -8,7 +9,7 @@ ghost use lib.ListN.{getD};
 ghost use Rattle.specification.specs.Reply.{statedCounts};
 ghost use Rattle.specification.specs.Amounts.{amountAt, readAmountsOf};
 
-// The amount that the file holds at a number: the lots' amounts come first, then the calls'. Bytes past the end count as 0.
+// Amount k of the file, counted from 0: the lots' amounts come first, then the calls'. Bytes past the end count as 0.
 pub fn amount_at(amounts: &[u8], k: usize) -> u32
     ensures { λ r. ⌜ r ≡ amountAt (now (amounts .entry)) k ⌝ }
 {
@@ -21,7 +22,7 @@ pub fn amount_at(amounts: &[u8], k: usize) -> u32
     files::u32_at(amounts, 7 + 4 * k)
 }
 
-// The counts, or the refusal of the amounts.
+// n and m again, or the refusal of the amounts.
 pub fn read_of(lots: usize, calls: usize, amounts: &[u8]) -> Counts
     requires { ⌜ (lots ≤ 32) × (calls ≤ 32) ⌝ }
     ensures { λ r. ⌜ statedCounts r ≡ readAmountsOf (record { lots = lots; calls = calls }) (now (amounts .entry)) ⌝ }
@@ -43,13 +44,13 @@ pub fn read_of(lots: usize, calls: usize, amounts: &[u8]) -> Counts
     if size < amounts.len() {
         return Counts::Refused(Refusal::BytesAfter);
     }
-    if book::inner::all_within(amounts, 7, lots + calls, 1_000_000_000) {
+    if book::inner::all_within(amounts, 7, lots + calls, AMOUNT_LIMIT) {
         return Counts::Are(lots, calls);
     }
     Counts::Refused(Refusal::AmountTooHigh)
 }
 
-// So many amounts of the file, from the one numbered `first` on.
+// Amounts `first` to `first + count - 1` of the file, from entry 0 of the array on.
 pub fn amounts_from(amounts: &[u8], first: usize, count: usize) -> [u64; 32]
     requires { ⌜ (first ≤ 32) × (count ≤ 32) ⌝ }
     ensures { λ r. ⌜ ((k : ℕ) → k < count → getD r k 0 ≡ amountAt (now (amounts .entry)) (first + k)) ⌝ }

@@ -2,7 +2,7 @@
 -- set bits below a bit grows by one past each set bit, so that c of them below bit c are all.
 use mathlib.Core.Path.{_≡_, refl, sym, ap, _∙_}
 use Prim.Native.Nat.{ℕ, zero, suc, _+_, _*_, _/_, _%_, _-_, _^_, _≤_, _<_}
-use native.Mathlib.Nat.{lt-of-lt-of-le, lt-of-le-of-lt, mod-le, mod-lt, mod-eq-of-lt, div-one, div-eq-of-lt, div-le-self, mod-one, one-mul, add-comm, div-add-mod', pow-suc}
+use native.Mathlib.Nat.{lt-of-lt-of-le, lt-of-le-of-lt, mod-le, mod-lt, mod-eq-of-lt, div-one, div-eq-of-lt, div-le-self, mod-one, one-mul, add-zero, add-comm, div-add-mod', pow-suc}
 use native.Mathlib.Omega.{arith}
 use mathlib.Core.Bool.{Bool, true, false, true≢false}
 use mathlib.Core.Logic.{⊎-elim}
@@ -62,6 +62,14 @@ ones-below-unset word j e =
     let l = mod-lt (word / 2 ^ j) {m = 2} (lit< tt) in
     omega (arith, ones-below-next word j, n, l)
 
+-- clear bits add nothing
+pub ones-below-clear : (word j d : ℕ) → ((k : ℕ) → j ≤ k → k < j + d → bit word k ≡ false) → onesBelow word (j + d) ≡ onesBelow word j
+ones-below-clear word j zero clear = rw (add-zero j)
+ones-below-clear word j (suc d) clear =
+    let e : j + suc d ≡ j + d + 1 = omega arith in
+    rw e (ones-below-unset word (j + d) (clear (j + d) (omega arith) (omega arith))
+    ∙ ones-below-clear word j d (λ k l l′. clear k l (omega arith)))
+
 -- the count grows by at most one a bit, so where all of c bits are set, each of them is
 ones-below-slow : (word l d : ℕ) → onesBelow word (l + d) ≤ onesBelow word l + d
 ones-below-slow word l zero = let e : l + 0 ≡ l = omega arith in rw e (omega arith)
@@ -88,14 +96,11 @@ pub bit-below : (word j c : ℕ) → bit word j ≡ true → word < 2 ^ c → j 
 bit-below word j c b h =
     ⊎-elim (λ (g : c ≤ j). absurd (true≢false (sym b ∙ bit-past word j (lt-of-lt-of-le h (pow-mono g))))) (λ (g : j < c). g) (le-or-lt c j)
 
--- ---- a word with no gap: below 2 ^ c, with c bits set
+-- ---- a word whose set bits are the lowest: below 2 ^ c, with c bits set
 module _ (word : ℕ) (first : word < 2 ^ ones word) where
   -- the lowest bits are set, and no other
   ones-first : onesBelow word (ones word) ≡ ones word
   ones-first = ap ones (mod-eq-of-lt first)
-
-  pub ones-below-first : (j : ℕ) → j ≤ ones word → onesBelow word j ≡ j
-  ones-below-first j h = ones-below-full word (ones word) ones-first j h
 
   pub bit-first : (j : ℕ) → j < ones word → bit word j ≡ true
   bit-first j h = bit-of-full word (ones word) ones-first j h

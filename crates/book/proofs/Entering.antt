@@ -23,18 +23,18 @@ ltb-next r j h =
     (λ (g : r < j). lt-ltb r (j + 1) (omega arith) ∙ sym (lt-ltb r j g)) (le-or-lt j r)
 
 -- the table's entry k once lot i's calls below j are entered
-abbrev pub partRow : List ℕ → ℕ → ℕ → ℕ → ℕ → ℕ → ℕ
+abbrev partRow : List ℕ → ℕ → ℕ → ℕ → ℕ → ℕ → ℕ
 partRow table word i at j k =
     cond (eqb (k / 32) i && (ltb (k % 32) j && bit word (k % 32))) (at + 4 * onesBelow word (k % 32)) (getD table k 0)
 
 module _ (table : List ℕ) (word i at : ℕ) where
-  pub part-none : (k : ℕ) → partRow table word i at 0 k ≡ getD table k 0
+  part-none : (k : ℕ) → partRow table word i at 0 k ≡ getD table k 0
   part-none k = simp (le-ltb (k % 32) 0 (omega arith), and-false)
 
-  pub part-all : (k : ℕ) → partRow table word i at 32 k ≡ withRow table word i at k
+  part-all : (k : ℕ) → partRow table word i at 32 k ≡ withRow table word i at k
   part-all k = simp (lt-ltb (k % 32) 32 (mod-lt k (lit< tt)))
 
-  pub part-kept : (j k : ℕ) → (k % 32 ≡ j → k / 32 ≡ i → bit word j ≡ false)
+  part-kept : (j k : ℕ) → (k % 32 ≡ j → k / 32 ≡ i → bit word j ≡ false)
       → partRow table word i at (j + 1) k ≡ partRow table word i at j k
   part-kept j k h = go (ℕ-discrete (k % 32) j) (ℕ-discrete (k / 32) i)
     where
@@ -43,10 +43,10 @@ module _ (table : List ℕ) (word i at : ℕ) where
       go (yes r) (no q) = simp (ne-eqb (k / 32) i q)
       go (yes r) (yes q) = let e : bit word (k % 32) ≡ false = rw r (h r q) in simp (e, and-false)
 
-  pub part-made : (j k : ℕ) → k % 32 ≡ j → k / 32 ≡ i → bit word j ≡ true → partRow table word i at (j + 1) k ≡ at + 4 * onesBelow word j
+  part-made : (j k : ℕ) → k % 32 ≡ j → k / 32 ≡ i → bit word j ≡ true → partRow table word i at (j + 1) k ≡ at + 4 * onesBelow word j
   part-made j k r q b = simp (eq-eqb (k / 32) i q, r, lt-ltb j (j + 1) (omega arith), b)
 
-  -- lot i's calls below j are entered, and `next` is the place of the next cost
+  -- lot i's calls below j are entered, and `next` is the offset of the next cost
   pub record Entered (j : ℕ) (entered : List ℕ) (next : ℕ) : Type 0 where
     pub bounded : j ≤ 32
     pub long : length entered ≡ 1024
@@ -77,7 +77,7 @@ module _ (table : List ℕ) (word i at : ℕ) where
       go k h (no n) =
           getD-set-other entered (32 * i + j) k next 0 n ∙ E .entries k h ∙ sym (part-kept j k (λ r q. absurd (n (omega arith))))
 
-  pub entered-unset : {j next : ℕ} (entered : List ℕ) → Entered j entered next → j < 32 → bit word j ≡ false → Entered (j + 1) entered next
+  entered-unset : {j next : ℕ} (entered : List ℕ) → Entered j entered next → j < 32 → bit word j ≡ false → Entered (j + 1) entered next
   entered-unset {j} entered E hj b = record {
     bounded = omega arith;
     long = E .long;
@@ -86,7 +86,7 @@ module _ (table : List ℕ) (word i at : ℕ) where
   }
 
   -- calls whose bits are clear are passed over
-  pub entered-skip : (d : ℕ) {j next : ℕ} (entered : List ℕ) → Entered j entered next → j + d ≤ 32
+  entered-skip : (d : ℕ) {j next : ℕ} (entered : List ℕ) → Entered j entered next → j + d ≤ 32
       → ((k : ℕ) → j ≤ k → k < j + d → bit word k ≡ false) → Entered (j + d) entered next
   entered-skip zero {j} entered E h clear = rw (add-zero j) E
   entered-skip (suc d) {j} entered E h clear =

@@ -5,11 +5,12 @@ use lib.Count.{ones}
 use Rattle.specification.specs.Reply.{gives, refuses}
 use Rattle.specification.specs.Bytes.{u16At, u32At, readOpening}
 use Rattle.specification.specs.Book.{readCosts, readRow, readRows, readBook, rowAt, problemOf}
+use Rattle.specification.specs.Book.{PairCost, costs, notEligible, outside, pairCost}
 use Rattle.specification.specs.Examples.{book, book1235, bookGap}
 use Rattle.specification.proofs.Stated.{cause-back, readBack, one-to-one}
 use Rattle.book.specs.declared.Cost.{Cost}
 use Rattle.book.specs.declared.Cost.the-variants.{Of, NotEligible, Outside, Refused}
-use Rattle.book.specs.Pairs.{PairCost, costs, notEligible, outside, statedCost, pairCost}
+use Rattle.book.specs.Pairs.{statedCost}
 
 known : (pairCost book1235 1 0 ≡ gives (costs 3))
     × (pairCost bookGap 1 1 ≡ gives notEligible)

@@ -40,7 +40,7 @@ filled-none book = record {
 }
 
 module _ (book : List ℕ) (e : readable book ≡ true) where
-  -- a lot's places go by its word alone, since no bit from m on is set
+  -- a lot's offsets go by its word alone, since no bit from m on is set
   pub offset-row : (i j : ℕ) → i < bookLots book → (let word = rowWord (rowAt book i) in
       costOffset book i j ≡ cond (bit word j) (rowStart book i + 4 + 4 * onesBelow word j) 0)
   unfolding problemOf

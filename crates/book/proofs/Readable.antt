@@ -30,3 +30,8 @@ readable-is book e = go (readBook book) refl e
     go : (r : Reply Size) → readBook book ≡ r → notRefused r ≡ true → (n : Size) × BookRead book n
     go (gives n) q e = (n, book-read book n q)
     go (refuses k vs) q e = absurd (true≢false (sym e))
+
+pub read-of : (book : List ℕ) → readable book ≡ true → Read book (bookLots book) (bookCalls book)
+read-of book e =
+    let (n, known) = readable-is book e in
+    record { lots-is = refl; calls-is = refl; is-readable = e; known = rw (known .sizes) at known }

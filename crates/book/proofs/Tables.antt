@@ -1,7 +1,7 @@
--- The table of offsets of a readable book. Each entry is a place in the book with four bytes from it on, and the number there is at most
--- the limit (`offsets-tabled`); the costs of a lot with all calls stand side by side (`offsets-packed`). The problem that the table states
--- has the book's own eligible pairs and their costs (`problem-same`).
-use mathlib.Core.Path.{_≡_, refl, _∙_, subst}
+-- The table of offsets of a readable book. From each entry on the book has four bytes, and the number there is at most the limit
+-- (`offsets-tabled`); the costs of a lot with all calls stand side by side (`offsets-packed`). The problem that the table states has the
+-- book's own eligible pairs and their costs (`problem-same`).
+use mathlib.Core.Path.{_≡_, refl, ap, _∙_, subst}
 use mathlib.Core.Logic.{by-cases}
 use mathlib.Core.Bool.{Bool, true, false, cond, not, _&&_}
 use mathlib.Core.List.{List}
@@ -16,14 +16,15 @@ use Rattle.transport.proofs.Laws.Tests.{T-true, and-says, counted-of, counted-s
 use Rattle.transport.proofs.Finder.Same.{Same}
 use Rattle.specification.specs.Bytes.{u32At}
 use Rattle.specification.specs.Book.{costLimit, bit, rowWord, bookLots, bookCalls, rowAt, problemOf}
+use Rattle.specification.proofs.Numbers.{u32-drop}
 use Rattle.specification.proofs.Flows.{tabulate-at}
 use Rattle.specification.proofs.Books.{admitted-inside, cost-within}
 use Rattle.book.specs.Pairs.{hasCost, rowStart, onesBelow, costOffset, offsetTable}
-use Rattle.book.specs.Table.{entry, admitsBy, problemBy, Tabled, Packed}
+use Rattle.book.specs.Table.{entry, admitsBy, problemBy, Tabled, Packed, Worded}
 use Rattle.book.proofs.Bits.{ones-below-none, ones-below-set, ones-below-all, ones-below-full, bit-of-full}
 use Rattle.book.proofs.Readable.{Read}
-use Rattle.book.proofs.Rows.{row-inside}
-use Rattle.book.proofs.Places.{entry-is, entry-admits, entry-cost}
+use Rattle.book.proofs.Rows.{row-is, row-inside}
+use Rattle.book.proofs.Offsets.{entry-is, entry-admits, entry-cost}
 use Rattle.book.proofs.Filled.{offset-row}
 
 not-zero : (x : ℕ) → not (eqb x 0) ≡ ltb 0 x
@@ -31,7 +32,7 @@ not-zero zero = refl
 not-zero (suc x) = rw (lt-ltb 0 (suc x) (omega arith), ne-eqb (suc x) 0 (λ e. omega arith))
 
 module _ (book : List ℕ) {n m : ℕ} (read : Read book n m) where
-  -- a pair with a place is eligible
+  -- a pair with an offset above 0 is eligible
   eligible-at : (i j : ℕ) → i < 32 → j < 32 → (entry (offsetTable book) i j ≡ 0 → ⊥) → Eligible (problemOf book) i j
   eligible-at i j hi hj h =
       admitted-inside book i j
@@ -42,7 +43,7 @@ module _ (book : List ℕ) {n m : ℕ} (read : Read book n m) where
       → u32At book (entry (offsetTable book) i j) ≡ problemOf book .cost i j
   cost-is i j hi hj e = entry-cost book i j hi hj (rw (read .is-readable) (T-true (problemOf book .admits i j) (e .2)))
 
-  -- the four bytes from a cost's place on stand in its lot's row
+  -- the four bytes from a cost's offset on stand in its lot's row
   cost-inside : (i j : ℕ) → Eligible (problemOf book) i j
       → rowStart book i + (4 + 4 * onesBelow (rowWord (rowAt book i)) j) + 4 ≤ length book
   unfolding problemOf
@@ -69,7 +70,7 @@ module _ (book : List ℕ) {n m : ℕ} (read : Read book n m) where
           let e = eligible-at (k / 32) (k % 32) (omega arith) (omega arith) (λ z. stands (rw at z)) in
           rw at (omega (arith, cost-is (k / 32) (k % 32) (omega arith) (omega arith) e, cost-within (read .known) (k / 32) (k % 32) e))
 
-  -- the places of a lot's costs go by its word: where the last of m is the place of a cost with m - 1 before it, all m bits are set
+  -- the offsets of a lot's costs go by its word: where the last of m is that of a cost with m - 1 before it, all m bits are set
   pub offsets-packed : 0 < m → m ≤ 32 → Packed (offsetTable book) m
   unfolding problemOf
   offsets-packed some few = record { side-by-side = side-by-side }
@@ -83,7 +84,7 @@ module _ (book : List ℕ) {n m : ℕ} (read : Read book n m) where
           omega (
             arith,
             start-is,
-            place l (omega arith),
+            offset l (omega arith),
             counted-of (bit word l) (at l) (rw (bit-of-full word (m - 1) full l h) tt),
             ones-below-full word (m - 1) full l (omega arith),
           ))
@@ -94,19 +95,50 @@ module _ (book : List ℕ) {n m : ℕ} (read : Read book n m) where
           at : ℕ → ℕ
           at j = rowStart book i + 4 + 4 * onesBelow word j
 
-          place : (j : ℕ) → j < 32 → entry (offsetTable book) i j ≡ cond (bit word j) (at j) 0
-          place j hj = entry-is book i j hi hj
+          offset : (j : ℕ) → j < 32 → entry (offsetTable book) i j ≡ cond (bit word j) (at j) 0
+          offset j hj = entry-is book i j hi hj
               ∙ offset-row book (read .is-readable) i j (eligible-at i 0 hi (omega arith) (λ z. omega arith) .0)
 
-          -- a place above 0 is that of a set bit
+          -- an offset above 0 is that of a set bit
           stands : (j : ℕ) → j < 32 → 0 < entry (offsetTable book) i j → entry (offsetTable book) i j ≡ at j
-          stands j hj h = place j hj ∙ counted-of (bit word j) (at j) (counted-says (bit word j) (at j) (rw (place j hj) at h))
+          stands j hj h = offset j hj ∙ counted-of (bit word j) (at j) (counted-says (bit word j) (at j) (rw (offset j hj) at h))
 
           start-is : entry (offsetTable book) i 0 ≡ rowStart book i + 4
           start-is = omega (arith, stands 0 (omega arith) first, ones-below-none word)
 
           full : onesBelow word (m - 1) ≡ m - 1
           full = omega (arith, start-is, stands (m - 1) (omega arith) (omega (arith, last, first)), last)
+
+  -- the word at which a row starts has the calls that the table has entries for
+  pub offsets-worded : (starts : List ℕ) → ((i : ℕ) → i < n → getD starts i 0 ≡ rowStart book i) → Worded book (offsetTable book) starts
+  unfolding problemOf
+  offsets-worded starts starts-are = record { within = within; has = has }
+    where
+      lot-in : (i j : ℕ) → i < 32 → j < 32 → (entry (offsetTable book) i j ≡ 0 → ⊥) → i < bookLots book
+      lot-in i j hi hj h = eligible-at i j hi hj h .0
+
+      start-is : (i j : ℕ) → i < 32 → j < 32 → (entry (offsetTable book) i j ≡ 0 → ⊥) → getD starts i 0 ≡ rowStart book i
+      start-is i j hi hj h = starts-are i (omega (arith, read .lots-is, lot-in i j hi hj h))
+
+      within : (i j : ℕ) → i < 32 → j < 32 → (entry (offsetTable book) i j ≡ 0 → ⊥) → getD starts i 0 + 4 ≤ length book
+      within i j hi hj h = omega (arith, start-is i j hi hj h, row-inside (read .known) i (lot-in i j hi hj h))
+
+      has : (i j l : ℕ) → i < 32 → j < 32 → l < 32 → (entry (offsetTable book) i j ≡ 0 → ⊥)
+          → bit (u32At book (getD starts i 0)) l ≡ not (eqb (entry (offsetTable book) i l) 0)
+      has i j l hi hj hl h = rw (start-is i j hi hj h, ← word-is) (go (bit (rowWord (rowAt book i)) l) refl)
+        where
+          word-is : rowWord (rowAt book i) ≡ u32At book (rowStart book i)
+          word-is =
+              let whole : rowStart book i + 0 ≡ rowStart book i = omega arith in
+              rw (row-is book i) (u32-drop (rowStart book i) book 0 ∙ ap (u32At book) whole)
+
+          entry-at : entry (offsetTable book) i l
+              ≡ cond (bit (rowWord (rowAt book i)) l) (rowStart book i + 4 + 4 * onesBelow (rowWord (rowAt book i)) l) 0
+          entry-at = entry-is book i l hi hl ∙ offset-row book (read .is-readable) i l (lot-in i j hi hj h)
+
+          go : (b : Bool) → bit (rowWord (rowAt book i)) l ≡ b → bit (rowWord (rowAt book i)) l ≡ not (eqb (entry (offsetTable book) i l) 0)
+          go true b = rw (entry-at, b) (rw (ne-eqb (rowStart book i + 4 + 4 * onesBelow (rowWord (rowAt book i)) l) 0 (λ e. omega arith)))
+          go false b = rw (entry-at, b)
 
   pub problem-same : Same (problemBy book (offsetTable book) n m) (problemOf book)
   unfolding problemOf

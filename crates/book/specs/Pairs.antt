@@ -1,31 +1,20 @@
--- The cost of a pair of a readable book, and the byte at which the book holds it.
+-- What each case of the answer of `pair_cost` states, and the byte at which a readable book holds the cost of a pair.
 use mathlib.Core.List.{List}
 use mathlib.Core.Bool.{Bool, true, false, cond, _&&_}
 use Prim.Native.Nat.{ℕ, zero, suc, _+_, _*_, _/_, _%_, _^_}
-use lib.Dec.{ltb}
 use lib.Count.{ones}
-use Rattle.specification.specs.Reply.{Reply, gives, refuses, refused, _>>=_}
-use Rattle.specification.specs.Book.{rowWord, rowSize, readBook, rowAt, problemOf}
+use Rattle.specification.specs.Reply.{Reply, gives, refuses, refused}
+use Rattle.specification.specs.Book.{rowWord, rowSize, readBook, rowAt, problemOf, PairCost, costs, notEligible, outside}
 use Rattle.specification.specs.Run.{tabulate}
 use Rattle.book.specs.declared.Cost.{Cost}
 use Rattle.book.specs.declared.Cost.the-variants.{Of, NotEligible, Outside, Refused}
 
--- what a readable book says of a lot and a call: the pair's cost, that the pair is not eligible, or that one of the two is not in the book
-pub data PairCost : Type 0 where
-  costs : ℕ → PairCost
-  notEligible outside : PairCost
-
+-- what each case of the answer states
 abbrev pub statedCost : Cost → Reply PairCost
 statedCost (Of cost) = gives (costs cost)
 statedCost NotEligible = gives notEligible
 statedCost Outside = gives outside
 statedCost (Refused r) = refused r
-
-abbrev pub pairCost : List ℕ → ℕ → ℕ → Reply PairCost
-pairCost book i j = readBook book >>= λ size. gives (
-    cond (ltb i (size .lots) && ltb j (size .calls))
-    (cond (problemOf book .admits i j) (costs (problemOf book .cost i j)) notEligible)
-    outside)
 
 -- the reply is no refusal
 abbrev pub notRefused : {A : Type 0} → Reply A → Bool
@@ -53,6 +42,6 @@ onesBelow word j = ones (word % 2 ^ j)
 abbrev pub costOffset : List ℕ → ℕ → ℕ → ℕ
 costOffset book i j = cond (hasCost book i j) (rowStart book i + (4 + 4 * onesBelow (rowWord (rowAt book i)) j)) 0
 
--- entry 32 i + j of the table of 1,024 is the place of the cost of (i, j)
+-- entry 32 i + j of the table of 1,024 is the offset of the cost of (i, j)
 abbrev pub offsetTable : List ℕ → List ℕ
 offsetTable book = tabulate 1024 (λ k. costOffset book (k / 32) (k % 32))

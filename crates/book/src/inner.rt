@@ -1,4 +1,5 @@
-// The places of the costs: a table by lot and call, made in one pass over the rows of a book that was read, and what it says of a pair.
+// Where a book that was read holds its costs: the byte at which each row starts, and a table of offsets by lot and call, made in one pass
+// over the rows; and what the table says of a pair.
 use specification::Call;
 use specification::Lot;
 ghost use mathlib.Core.Path.{_≡_};
@@ -7,11 +8,11 @@ ghost use Prim.Native.Nat.{ℕ, _+_, _*_, _^_, _<_, _≤_};
 ghost use lib.Count.{ones};
 ghost use lib.Dec.{leb};
 ghost use lib.ListN.{length, drop, getD};
-ghost use Rattle.transport.specs.Finder.{every};
+ghost use Rattle.transport.specs.Finder.{every, size};
 ghost use Rattle.specification.specs.Bytes.{u32At};
-ghost use Rattle.specification.specs.Book.{bookLots, rowCost};
+ghost use Rattle.specification.specs.Book.{bookLots, rowCost, problemOf};
 ghost use Rattle.book.specs.Pairs.{readable, rowStart, offsetTable};
-ghost use Rattle.book.specs.Table.{entry, admitsBy, CanRead, WithRow};
+ghost use Rattle.book.specs.Table.{entry, admitsBy, CanRead, WithRow, SetFrom};
 
 // The byte at which each of the first `lots` rows starts in a readable book.
 pub fn row_starts(book: &[u8], lots: usize) -> [usize; 32]
@@ -37,6 +38,14 @@ pub fn row_at(book: &[u8], lot: Lot) -> usize
     starts[i]
 }
 
+// How many pairs of a readable book are eligible: past the opening it has four bytes for each lot's word and four for each cost.
+pub fn pair_count(book: &[u8], lots: usize) -> usize
+    requires { ⌜ (readable (now book) ≡ true) × (lots ≡ bookLots (now book)) ⌝ }
+    ensures { λ r. ⌜ r ≡ size (problemOf (now (book .entry))) ⌝ }
+{
+    (book.len() - 7) / 4 - lots
+}
+
 // The cost of a call in the row that starts at a byte of the book.
 pub fn cost_from(book: &[u8], start: usize, call: Call) -> u32
     requires { ⌜ start ≤ length (now book) ⌝ }
@@ -45,7 +54,21 @@ pub fn cost_from(book: &[u8], start: usize, call: Call) -> u32
     super::row::cost_in(&book[start..], call)
 }
 
-// Enters the places of one lot's costs, of which the first stands at `at`: set bit by set bit.
+// The lowest set bit of a word from bit j on, or 32.
+pub fn set_from(word: u32, j: usize) -> usize
+    ensures { λ r. ⌜ SetFrom word j r ⌝ }
+{
+    if 32 <= j {
+        return 32;
+    }
+    let high = word >> j;
+    if high == 0 {
+        return 32;
+    }
+    u32::trailing_zeros(high) as usize + j
+}
+
+// Enters the offsets of one lot's costs, of which the first stands at `at`: set bit by set bit.
 fn enter_set(table: &mut [u16; 1024], word: u32, lot: Lot, at: usize)
     requires { ⌜ (length (now table) ≡ 1024) × (lot .0 < 32) × (at < 65000) ⌝ }
     ensures { λ _. ⌜ WithRow (now (table .entry)) word (lot .0) at (now (table .exit)) ⌝ }
@@ -53,15 +76,15 @@ fn enter_set(table: &mut [u16; 1024], word: u32, lot: Lot, at: usize)
     let i = lot.0;
     let base = 32 * i;
     let mut next = at as u16;
-    let mut j = super::word::set_from(word, 0);
+    let mut j = set_from(word, 0);
     while j < 32 {
         table[base + j] = next;
         next += 4;
-        j = super::word::set_from(word, j + 1);
+        j = set_from(word, j + 1);
     }
 }
 
-// The same where the row has no gap: its set bits are the lowest.
+// The same where the lot is eligible for the first calls and no others: its set bits are the lowest.
 fn enter_first(table: &mut [u16; 1024], word: u32, lot: Lot, at: usize)
     requires { ⌜ (length (now table) ≡ 1024) × (lot .0 < 32) × (at < 65000) × (word < 2 ^ ones word) ⌝ }
     ensures { λ _. ⌜ WithRow (now (table .entry)) word (lot .0) at (now (table .exit)) ⌝ }
@@ -76,6 +99,7 @@ fn enter_first(table: &mut [u16; 1024], word: u32, lot: Lot, at: usize)
     }
 }
 
+// The same by whichever of the two fits the word.
 fn enter_row(table: &mut [u16; 1024], word: u32, lot: Lot, at: usize)
     requires { ⌜ (length (now table) ≡ 1024) × (lot .0 < 32) × (at < 65000) ⌝ }
     ensures { λ _. ⌜ WithRow (now (table .entry)) word (lot .0) at (now (table .exit)) ⌝ }
@@ -119,7 +143,7 @@ pub fn entry_of(table: &[u16; 1024], lot: Lot, call: Call) -> usize
     wide(table[32 * i + j])
 }
 
-// The 32-bit number at a place that the book has.
+// The 32-bit number at an offset from which four bytes stand.
 pub fn cost_at(book: &[u8], at: usize) -> u32
     requires { ⌜ at + 4 ≤ length (now book) ⌝ }
     ensures { λ r. ⌜ r ≡ u32At (now (book .entry)) at ⌝ }
@@ -127,7 +151,8 @@ pub fn cost_at(book: &[u8], at: usize) -> u32
     files::u32_in(book, at)
 }
 
-// Whether none of `count` 32-bit numbers is above the limit, the first of them at a byte. There is no early end: the pass is straight code.
+// Whether none of the `count` 32-bit numbers from byte `start` on is above the limit. It does not stop at the first that is: the pass is
+// straight code.
 pub fn all_within(s: &[u8], start: usize, count: usize, limit: u32) -> bool
     requires { ⌜ start + 4 * count ≤ length (now s) ⌝ }
     ensures { λ r. ⌜ r ≡ every count (λ k. leb (u32At (now (s .entry)) (start + 4 * k)) limit) ⌝ }

@@ -10,9 +10,9 @@ use specification::Lot;
 use specification::Refusal;
 ghost use mathlib.Core.Path.{_≡_};
 ghost use Rattle.specification.specs.Reply.{statedCounts};
-ghost use Rattle.specification.specs.Book.{readRows, countOutside, readBook, lotCosts};
+ghost use Rattle.specification.specs.Book.{readRows, countOutside, readBook, lotCosts, pairCost};
 ghost use Rattle.files.specs.Files.{statedStep};
-ghost use Rattle.book.specs.Pairs.{statedCost, pairCost};
+ghost use Rattle.book.specs.Pairs.{statedCost};
 
 // What a book says of a lot and a call: the pair's cost, that the pair is not eligible, or that the lot or the call is not in the book.
 pub enum Cost {
@@ -22,7 +22,7 @@ pub enum Cost {
     Refused(Refusal),
 }
 
-// The rows of so many lots, from lot 0, in the part of the book that starts at its word; no byte may follow them.
+// The rows of lots 0 to `lots` - 1, in the part of the book that starts at the first one's word; no byte may follow them.
 fn read_rows(rows: &[u8], lots: usize, calls: usize) -> Step
     ensures { λ r. ⌜ statedStep r ≡ readRows (now (rows .entry)) 0 lots calls ⌝ }
 {

@@ -20,7 +20,7 @@ const SINGLE_AND_A_BYTE: [u8; 16] = *b"CLB\x01\x00\x01\x01\x01\x00\x00\x00\x07\x
 const TWO_BY_THREE: [u8; 23] =
     *b"CLB\x01\x00\x02\x03\x05\x00\x00\x00\x0a\x00\x00\x00\x0c\x00\x00\x00\x00\x00\x00\x00";
 
-// Puts a 32-bit number at a place, if it fits there.
+// Puts a 32-bit number at an offset, if it fits there.
 fn put(file: &mut [u8; 4300], at: usize, x: u32) {
     if at <= 4296 {
         file[at] = (x % 256) as u8;
@@ -54,7 +54,7 @@ fn largest() -> [u8; 4300] {
     file
 }
 
-// The first so many bytes, or all where there are fewer.
+// The first `len` bytes, or all where there are fewer.
 fn first(s: &[u8], len: usize) -> &[u8] {
     if len <= s.len() {
         return &s[0..len];

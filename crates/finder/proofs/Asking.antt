@@ -1,25 +1,26 @@
--- Laws of the words of calls that remain to a lot, and of those that it is to be asked for.
-use mathlib.Core.Path.{_≡_, refl, sym, _∙_, ap, subst, subst₂, subst⁻¹}
+-- Laws of words filled one by one: the calls that each lot is eligible for, the lots that are eligible for each call, and the calls that a lot
+-- is to be asked for.
+use mathlib.Core.Path.{_≡_, refl, sym, _∙_, ap, subst, subst⁻¹}
 use mathlib.Core.Logic.{by-cases}
 use mathlib.Core.Bool.{Bool, true, false, _||_, or-false, true≢false}
 use mathlib.Core.List.{List}
-use Prim.Native.Nat.{ℕ, _+_, _*_, _/_, _%_, _≤_, _<_}
+use Prim.Native.Nat.{ℕ, _+_, _*_, _≤_, _<_}
 use native.Mathlib.Decide.{ℕ-discrete, decLt}
 use native.Mathlib.Omega.{arith}
 use borrow.Author.Count.{below-more}
 use borrow.Author.Tests.{eq-eqb}
-use lib.Dec.{T, eqb}
-use lib.ListN.{length, getD, set, length-set}
+use lib.Dec.{eqb}
+use lib.ListN.{length, getD, set, replicate, length-set, length-replicate, getD-replicate, List·getD-eq-default}
 use lib.Seq.{getD-set-same, getD-set-other}
 use Rattle.specification.specs.Book.{bit}
 use Rattle.book.specs.Table.{entry}
-use Rattle.finder.specs.Slacks.{remains}
-use Rattle.finder.specs.Words.{LowestIn, Without, IncludingIf, Calls, Lefts}
-use Rattle.finder.specs.Waiting.{Passes, First, FirstCall, Hindered, Asks, Tried, Asked}
-use Rattle.finder.proofs.Digits.{bit-none}
-use Rattle.finder.proofs.Marks.{hindered-not}
+use Rattle.slacks.specs.Slacks.{remains, Slacks}
+use Rattle.words.specs.Words.{Without, IncludingIf}
+use Rattle.finder.specs.Words.{Begins, Included, TakenFrom, isLeft, Eligible, Words}
+use Rattle.finder.specs.Waiting.{takenMark, Taken}
+use Rattle.words.proofs.Sets.{bit-none}
 
--- a call that is not in the word was not in it
+-- a number that is not in the word was not in it
 pub if-unset : (test : Bool) (word j after l : ℕ) → IncludingIf test word j after → bit after l ≡ false → bit word l ≡ false
 if-unset test word j after l r e = by-cases (ℕ-discrete l j)
     (λ z. subst⁻¹ (λ (b : ℕ). bit word b ≡ false) z (unset test (bit word j) (sym (r .own) ∙ subst (λ (b : ℕ). bit after b ≡ false) z e)))
@@ -29,125 +30,122 @@ if-unset test word j after l r e = by-cases (ℕ-discrete l j)
     unset true b q = absurd (true≢false q)
     unset false b q = q
 
--- the word has the first calls that remain to lot i, and no other
-pub record Begins (slacks : List ℕ) (i count word : ℕ) : Type 0 where
-  pub first : (j : ℕ) → j < count → bit word j ≡ remains slacks i j
-  pub none : (j : ℕ) → count ≤ j → bit word j ≡ false
+-- one number more
+pub begins-none : (test : ℕ → Bool) → Begins test 0 0
+begins-none test = record { first = λ j h. absurd (omega arith); none = λ j h. bit-none j }
 
-module _ (slacks : List ℕ) (i : ℕ) where
-  pub begins-none : Begins slacks i 0 0
-  begins-none = record { first = λ j h. absurd (omega arith); none = λ j h. bit-none j }
-
-  pub begins-more : (j word after : ℕ) → Begins slacks i j word → IncludingIf (remains slacks i j) word j after → Begins slacks i (j + 1) after
-  begins-more j word after h r = record {
-    first = below-more _ _
-        (λ l hl. r .others l (λ e. omega arith) ∙ h .first l hl)
-        (r .own ∙ ap (λ (b : Bool). remains slacks i j || b) (h .none j (omega arith)) ∙ or-false (remains slacks i j));
-    none = λ l hl. r .others l (λ e. omega arith) ∙ h .none l (omega arith);
-  }
-
-  pub begins-all : (m word : ℕ) → Begins slacks i m word → ((j : ℕ) → m ≤ j → j < 32 → entry slacks j i ≡ 0) → Calls slacks i word
-  begins-all m word h beyond j hj = by-cases (decLt j m)
-      (h .first j)
-      (λ o. h .none j (omega arith) ∙ rw (eq-eqb (entry slacks j i) 0 (beyond j (omega arith) hj)))
-
--- one lot more
-pub lefts-more : (slacks : List ℕ) (i word : ℕ) (words : List ℕ) → i < 32 → Lefts slacks i words → Calls slacks i word
-    → Lefts slacks (i + 1) (set words i word)
-lefts-more slacks i word words hi h r = record {
-  each = below-more _ _
-      (λ a ha. subst⁻¹ (Calls slacks a) (getD-set-other words i a word 0 (λ e. omega arith)) (h .each a ha))
-      (subst⁻¹ (Calls slacks i) (getD-set-same words i word 0 (omega (arith, h .long))) r);
-  long = simp length-set (h .long);
+pub begins-more : (test : ℕ → Bool) (j word after : ℕ) → Begins test j word → IncludingIf (test j) word j after → Begins test (j + 1) after
+begins-more test j word after h r = record {
+  first = below-more _ _
+      (λ l hl. r .others l (λ e. omega arith) ∙ h .first l hl)
+      (r .own ∙ ap (λ (b : Bool). test j || b) (h .none j (omega arith)) ∙ or-false (test j));
+  none = λ l hl. r .others l (λ e. omega arith) ∙ h .none l (omega arith);
 }
 
-module _ (live least : List ℕ) (n i : ℕ) (hi : i < n) (few : n ≤ 32) (waits asks : List ℕ) (h : Asks live least n waits asks) where
-  -- a call in the word is tried
-  module _ (j : ℕ) (r : Bool) (waits′ : List ℕ) (b : bit (getD asks i 0) j ≡ true) (q : Tried live least n i j r waits waits′) where
-    pub asks-tried : Asks live least n waits′ asks
-    asks-tried = record {
-      each = λ a l ha hl t e. subst⁻¹ (Hindered live least n a l)
-          (q .others a l (omega arith) (λ z. true≢false (sym b ∙ subst (λ (g : ℕ). bit (getD asks g 0) j ≡ false) (z .0)
-          (subst (λ (g : ℕ). bit (getD asks a 0) g ≡ false) (z .1) e))))
-          (h .each a l ha hl t e);
-      long = h .long;
+-- one word more
+pub included-none : (test : ℕ → Bool) (j : ℕ) (before : List ℕ) → Included test 0 j before before
+included-none test j before = record { passed = λ k h. absurd (omega arith); later = λ k h. refl; long = refl }
+
+pub included-more : (test : ℕ → Bool) (j : ℕ) (before : List ℕ) (k v : ℕ) (now : List ℕ) → k < length now → Included test k j before now
+    → IncludingIf (test k) (getD now k 0) j v → Included test (k + 1) j before (set now k v)
+included-more test j before k v now h r f = record {
+  passed = below-more _ _
+      (λ a ha. subst⁻¹ (IncludingIf (test a) (getD before a 0) j) (getD-set-other now k a v 0 (λ e. omega arith)) (r .passed a ha))
+      (subst⁻¹ (IncludingIf (test k) (getD before k 0) j) (getD-set-same now k v 0 h)
+      (subst (λ (w : ℕ). IncludingIf (test k) w j v) (r .later k (omega arith)) f));
+  later = λ a ha. getD-set-other now k a v 0 (λ e. omega arith) ∙ r .later a (omega arith);
+  long = simp length-set (r .long);
+}
+
+-- the words by the first calls
+pub record Filling (slacks : List ℕ) (n count : ℕ) (lefts holders : List ℕ) : Type 0 where
+  pub calls : (i : ℕ) → i < n → Begins (remains slacks i) count (getD lefts i 0)
+  pub beyond : (i : ℕ) → n ≤ i → getD lefts i 0 ≡ 0
+  pub lots : (j : ℕ) → j < count → Begins (λ i. remains slacks i j) n (getD holders j 0)
+  pub to-come : (j : ℕ) → count ≤ j → getD holders j 0 ≡ 0
+  pub lefts-long : length lefts ≡ 32
+  pub holders-long : length holders ≡ 32
+
+zero-at : (k : ℕ) → getD (replicate {A = ℕ} 32 0) k 0 ≡ 0
+zero-at k = by-cases (decLt k 32)
+    (λ h. getD-replicate {A = ℕ} 32 k 0 0 h)
+    (λ h. List·getD-eq-default {A = ℕ} (replicate 32 0) 0 {n = k} (omega (arith, length-replicate {A = ℕ} 32 0)))
+
+module _ (slacks : List ℕ) (n : ℕ) where
+  pub filling-first : (lefts holders : List ℕ) → lefts ≡ replicate 32 0 → holders ≡ replicate 32 0 → Filling slacks n 0 lefts holders
+  filling-first lefts holders e f = rw (e, f) (record {
+    calls = λ i h. subst⁻¹ (Begins (remains slacks i) 0) (zero-at i) (begins-none (remains slacks i));
+    beyond = λ i h. zero-at i;
+    lots = λ j h. absurd (omega arith);
+    to-come = λ j h. zero-at j;
+    lefts-long = length-replicate {A = ℕ} 32 0;
+    holders-long = length-replicate {A = ℕ} 32 0;
+  })
+
+  pub filling-more : (j word : ℕ) (lefts lefts′ holders : List ℕ) → j < 32 → Filling slacks n j lefts holders
+      → Begins (λ i. remains slacks i j) n word → Included (λ i. remains slacks i j) n j lefts lefts′
+      → Filling slacks n (j + 1) lefts′ (set holders j word)
+  filling-more j word lefts lefts′ holders hj h b q = record {
+    calls = λ i hi. begins-more (remains slacks i) j (getD lefts i 0) (getD lefts′ i 0) (h .calls i hi) (q .passed i hi);
+    beyond = λ i hi. q .later i hi ∙ h .beyond i hi;
+    lots = below-more _ _
+        (λ l hl. subst⁻¹ (Begins (λ i. remains slacks i l) n) (getD-set-other holders j l word 0 (λ e. omega arith)) (h .lots l hl))
+        (subst⁻¹ (Begins (λ i. remains slacks i j) n) (getD-set-same holders j word 0 (omega (arith, h .holders-long))) b);
+    to-come = λ l hl. getD-set-other holders j l word 0 (λ e. omega arith) ∙ h .to-come l (omega arith);
+    lefts-long = q .long ∙ h .lefts-long;
+    holders-long = simp length-set (h .holders-long);
+  }
+
+  module _ (m : ℕ) (r : Slacks slacks n m) (lefts holders : List ℕ) (h : Filling slacks n m lefts holders) where
+    none-beyond : (i j : ℕ) → i < n → m ≤ j → j < 32 → remains slacks i j ≡ false
+    none-beyond i j hi hm hj = rw (eq-eqb (entry slacks j i) 0 (r .beyond i j hi hm hj))
+
+    by-lot : (i j : ℕ) → i < n → j < 32 → isLeft lefts i j ≡ remains slacks i j
+    by-lot i j hi hj = by-cases (decLt j m)
+        (h .calls i hi .first j)
+        (λ o. h .calls i hi .none j (omega arith) ∙ sym (none-beyond i j hi (omega arith) hj))
+
+    by-call : (i j : ℕ) → i < n → j < 32 → bit (getD holders j 0) i ≡ remains slacks i j
+    by-call i j hi hj = by-cases (decLt j m)
+        (λ l. h .lots j l .first i hi)
+        (λ o. ap (λ (w : ℕ). bit w i) (h .to-come j (omega arith)) ∙ bit-none i ∙ sym (none-beyond i j hi (omega arith) hj))
+
+    none-held : (i j : ℕ) → n ≤ i → bit (getD holders j 0) i ≡ false
+    none-held i j hi = by-cases (decLt j m)
+        (λ l. h .lots j l .none i hi)
+        (λ o. ap (λ (w : ℕ). bit w i) (h .to-come j (omega arith)) ∙ bit-none i)
+
+    pub eligible-first : Eligible slacks n lefts
+    eligible-first = record { each = by-lot; beyond = h .beyond }
+
+    pub words-first : Words lefts lefts holders
+    words-first = record {
+      among = λ i j hi hj e. e;
+      held = λ i j hi hj. by-cases (decLt i n)
+          (λ l. by-call i j l hj ∙ sym (by-lot i j l hj))
+          (λ o. none-held i j (omega arith) ∙ sym (ap (λ (w : ℕ). bit w j) (h .beyond i (omega arith)) ∙ bit-none j));
+      lefts-long = h .lefts-long;
+      holders-long = h .holders-long;
     }
 
-    -- where it is hindered, it leaves the word
-    pub asks-without : (word : ℕ) → r ≡ false → Without (getD asks i 0) j word → Asks live least n waits′ (set asks i word)
-    asks-without word f w = record {
-      each = λ a l ha hl t e. by-cases (ℕ-discrete a i)
-          (λ z. subst⁻¹ (λ (g : ℕ). Hindered live least n g l (entry waits′ l g)) z
-          (own l hl (subst (λ (g : ℕ). T (remains live g l)) z t) (there l (subst (λ (g : ℕ). bit (getD (set asks i word) g 0) l ≡ false) z e))))
-          (λ d. asks-tried .each a l ha hl t (sym (ap (λ (v : ℕ). bit v l) (getD-set-other asks i a word 0 d)) ∙ e));
-      long = simp length-set (h .long);
-    }
-      where
-        there : (l : ℕ) → bit (getD (set asks i word) i 0) l ≡ false → bit word l ≡ false
-        there l e = sym (ap (λ (w : ℕ). bit w l) (getD-set-same asks i word 0 (omega (arith, h .long)))) ∙ e
+-- a number taken out of one of the words
+taken-from : (i j v : ℕ) (before : List ℕ) → i < length before → Without (getD before i 0) j v → TakenFrom i j before (set before i v)
+taken-from i j v before h w = record {
+  own = subst⁻¹ (Without (getD before i 0) j) (getD-set-same before i v 0 h) w;
+  others = λ k d. getD-set-other before i k v 0 d;
+  long = length-set before i v;
+}
 
-        own : (l : ℕ) → l < 32 → T (remains live i l) → bit word l ≡ false → Hindered live least n i l (entry waits′ l i)
-        own l hl t e = by-cases (ℕ-discrete l j)
-            (λ z. subst⁻¹ (λ (g : ℕ). Hindered live least n i g (entry waits′ g i)) z (q .no f (subst (λ (g : ℕ). T (remains live i g)) z t)))
-            (λ d. asks-tried .each i l hi hl t (sym (w .others l d) ∙ e))
-
-    -- where it can be taken, the lowest is the first
-    pub first-lowest : r ≡ true → LowestIn (getD asks i 0) j → j < 32 → FirstCall live least n i j
-    first-lowest e low hj = record {
-      none-before = λ l hl hh p. hindered-not live least n i l (entry waits l i) (h .each i l hi hh (p .on) (low .none-below l hl)) p;
-      passes = λ lt. q .yes e;
-      within = omega arith;
-    }
-
-  -- a lot with no call to ask for has none to take
-  pub first-none : getD asks i 0 ≡ 0 → FirstCall live least n i 32
-  first-none e = record {
-    none-before = λ l hl hh p. hindered-not live least n i l (entry waits l i)
-        (h .each i l hi hh (p .on) (ap (λ (v : ℕ). bit v l) e ∙ bit-none l)) p;
-    passes = λ lt. absurd (omega arith);
-    within = omega arith;
-  }
-
--- no pair of a lower lot passes: so the lowest call of this lot is the first of all, or there is none where all lots are passed
-module _ (live least : List ℕ) (n i : ℕ) (few : n ≤ 32) (h : (a : ℕ) → a < i → (b : ℕ) → b < 32 → Passes live least n a b → ⊥) where
-  pub first-found : (j : ℕ) → i < n → j < 32 → FirstCall live least n i j → First live least n (32 * i + j)
-  first-found j hi hj r = record {
-    none-lower = λ a b ha hb o p. by-cases (decLt a i)
-        (λ l. h a l b hb p)
-        (λ l. let e : a ≡ i = omega arith in r .none-before b (omega arith) hb (subst (λ (g : ℕ). Passes live least n g b) e p));
-    passes = λ hx. let e : i ≡ (32 * i + j) / 32 = omega arith in
-        let f : j ≡ (32 * i + j) % 32 = omega arith in
-        (omega arith, subst₂ (λ (a b : ℕ). Passes live least n a b) e f (r .passes hj));
-    within = omega arith;
-  }
-
-  pub first-last : n ≤ i → First live least n 1024
-  first-last le = record {
-    none-lower = λ a b ha hb o. h a (omega arith) b hb;
-    passes = λ lt. absurd (omega arith);
-    within = omega arith;
-  }
-
--- the words of lots, one more
-module _ (waits : List ℕ) (i j : ℕ) (before : List ℕ) where
-  pub asked-none : Asked waits 0 i j before before
-  asked-none = record { passed = λ k h. absurd (omega arith); later = λ k h d. refl; long = refl }
-
-  pub asked-more : (k v : ℕ) (now : List ℕ) → k < length now → Asked waits k i j before now
-      → IncludingIf (eqb (entry waits j k) i) (getD now k 0) j v → Asked waits (k + 1) i j before (set now k v)
-  asked-more k v now h r f = record {
-    passed = below-more _ _
-        (λ a ha o. subst⁻¹ (IncludingIf (eqb (entry waits j a) i) (getD before a 0) j) (getD-set-other now k a v 0 (λ e. omega arith)) (r .passed a ha o))
-        (λ o. subst⁻¹ (IncludingIf (eqb (entry waits j k) i) (getD before k 0) j) (getD-set-same now k v 0 h)
-        (subst (λ (w : ℕ). IncludingIf (eqb (entry waits j k) i) w j v) (r .later k (omega arith) o) f));
-    later = λ a ha o. getD-set-other now k a v 0 (λ e. omega arith) ∙ r .later a (omega arith) o;
-    long = simp length-set (r .long);
-  }
-
-  -- and the lot's own
-  pub asked-own : (count v : ℕ) (now : List ℕ) → Asked waits count i j before now → Asked waits count i j before (set now i v)
-  asked-own count v now r = record {
-    passed = λ a ha o. subst⁻¹ (IncludingIf (eqb (entry waits j a) i) (getD before a 0) j) (getD-set-other now i a v 0 o) (r .passed a ha o);
-    later = λ a ha o. getD-set-other now i a v 0 o ∙ r .later a ha o;
-    long = simp length-set (r .long);
-  }
+-- the pair's call leaves the word of its lot, and its lot that of its call; the words of the lots to ask are set, that of its own lot last
+pub taken-of : (i j left held : ℕ) (lefts holders waits asks now : List ℕ) → i < length lefts → j < length holders → i < length now
+    → Without (getD lefts i 0) j left → Without (getD holders j 0) i held
+    → Included (λ k. eqb (entry (set waits (32 * j + i) takenMark) j k) (i + 1)) 32 j asks now
+    → Taken i j lefts (set lefts i left) holders (set holders j held) waits (set waits (32 * j + i) takenMark) asks (set now i left)
+taken-of i j left held lefts holders waits asks now hl hh hn w v r = record {
+  from-lot = taken-from i j left lefts hl w;
+  from-call = taken-from j i held holders hh v;
+  marked = refl;
+  asked = λ k hk d. subst⁻¹ (IncludingIf (eqb (entry (set waits (32 * j + i) takenMark) j k) (i + 1)) (getD asks k 0) j) (getD-set-other now i k left 0 d) (r .passed k hk);
+  own = getD-set-same now i left 0 hn ∙ sym (getD-set-same lefts i left 0 hl);
+  long = simp length-set (r .long);
+}

@@ -1,6 +1,5 @@
--- The entry point's laws. The search goes by the book's table of offsets: of a readable book, the problem that the table states agrees with
--- the book's own, so the same order is found. Then document 01's reply and buffer in each of the four cases.
-use mathlib.Core.Path.{_≡_, sym, _∙_, ap, subst⁻¹}
+-- The entry point's laws: document 01's reply and buffer in each of the four cases.
+use mathlib.Core.Path.{_≡_, refl, sym, _∙_, ap}
 use mathlib.Core.List.{List, [], _++_}
 use mathlib.Core.Option.{Option, some, none}
 use Prim.Native.Nat.{ℕ, _+_, _*_, _≤_, _<_}
@@ -11,7 +10,6 @@ use Rattle.transport.specs.Greedy.{Pair}
 use Rattle.transport.specs.Finder.{find}
 use Rattle.transport.proofs.Orders.Length.{order-length}
 use Rattle.transport.proofs.Finder.Find.{find-is-order}
-use Rattle.transport.proofs.Finder.Same.{Same}
 use Rattle.specification.specs.Reply.{Size, gives, refuses, refused, statedCounts}
 use Rattle.specification.specs.declared.Refusal.{Refusal}
 use Rattle.specification.specs.declared.Counts.{Counts}
@@ -20,26 +18,9 @@ use Rattle.specification.specs.Book.{readBook, problemOf}
 use Rattle.specification.specs.OrderFile.{orderFile}
 use Rattle.specification.specs.Find.{orderLength, foundOrder, findOrder, findBuffer}
 use Rattle.files.specs.Files.{refusalOf}
-use Rattle.book.specs.Pairs.{offsetTable}
-use Rattle.book.proofs.Readable.{Read}
-use Rattle.book.proofs.Tables.{offsets-tabled, problem-same}
-use Rattle.book.specs.Table.{problemBy, Tabled}
-use Rattle.finder.specs.Table.{Stated}
 use Rattle.finder.specs.Writing.{Orders}
-use Rattle.finder.specs.declared.inner.Search.{Search}
-use Rattle.finder.specs.declared.inner.Search.the-variants.{Found, Nothing}
-
--- the search may go by the book's table of offsets, which states the book's own problem
-module _ (book table : List ℕ) (n m : ℕ) (r : Read book n m) (is-its : table ≡ offsetTable book) where
-  pub states-same : Same (problemBy book table n m) (problemOf book)
-  states-same = subst⁻¹ (λ (t : List ℕ). Same (problemBy book t n m) (problemOf book)) is-its (problem-same book r)
-
-  pub stated : Stated book table n m
-  stated = record {
-    lots-few = omega (arith, r .lots-is, r .known .lots-within);
-    calls-few = omega (arith, r .calls-is, r .known .calls-within);
-    tabled = subst⁻¹ (Tabled book) is-its (offsets-tabled book r);
-  }
+use Rattle.slacks.specs.declared.Search.{Search}
+use Rattle.slacks.specs.declared.Search.the-variants.{Found, Nothing}
 
 -- the refusal that is handed on is the book's
 pub refusal-is : (book : List ℕ) (counts : Counts) (cause told : Refusal) → statedCounts counts ≡ readBook book → counts ≡ Refused cause
@@ -57,7 +38,7 @@ module _ (book buffer : List ℕ) where
     unfolding foundOrder
     found-short h = simp (e, lt-ltb _ _ h)
 
-    pub found-by : (o : Option (List Pair)) → orderLength book ≤ length buffer → find (problemOf book) ≡ o
+    found-by : (o : Option (List Pair)) → orderLength book ≤ length buffer → find (problemOf book) ≡ o
         → foundOrder book buffer ≡ elim o [ none ↦ refuses 13 [] | some S ↦ gives S ]
     unfolding foundOrder
     found-by o h f =
@@ -69,16 +50,16 @@ module _ (book buffer : List ℕ) where
   unfolding findOrder findBuffer
   refused-replies k vs e = (simp e, simp e)
 
-  pub given-replies : (S : List Pair) → foundOrder book buffer ≡ gives S
+  given-replies : (S : List Pair) → foundOrder book buffer ≡ gives S
       → (gives (orderLength book) ≡ findOrder book buffer) × (orderFile S ++ drop (orderLength book) buffer ≡ findBuffer book buffer)
   unfolding findOrder findBuffer
   given-replies S e = (simp e, simp e)
 
--- the search's answer is the reply for the book, where the problem that was searched has the order of the book's own
+-- the search's answer is the reply for the book
 module _ (book buffer after : List ℕ) {size : Size} (e : readBook book ≡ gives size) (h : orderLength book ≤ length buffer)
-    (o : Option (List Pair)) (same-order : o ≡ find (problemOf book)) (r : Search) (answer : Orders o r buffer after) where
+    (r : Search) (answer : Orders (find (problemOf book)) r buffer after) where
   pub none-replies : r ≡ Nothing → (refuses 13 [] ≡ findOrder book buffer) × (after ≡ findBuffer book buffer)
-  none-replies q = go o (sym same-order) answer
+  none-replies q = go (find (problemOf book)) refl answer
     where
       go : (o : Option (List Pair)) → find (problemOf book) ≡ o → Orders o r buffer after
           → (refuses 13 [] ≡ findOrder book buffer) × (after ≡ findBuffer book buffer)
@@ -87,7 +68,7 @@ module _ (book buffer after : List ℕ) {size : Size} (e : readBook book ≡ giv
 
   pub some-replies : (count : ℕ) → r ≡ Found count
       → (gives (orderLength book) ≡ findOrder book buffer) × (after ≡ findBuffer book buffer)
-  some-replies count q = go o (sym same-order) answer
+  some-replies count q = go (find (problemOf book)) refl answer
     where
       go : (o : Option (List Pair)) → find (problemOf book) ≡ o → Orders o r buffer after
           → (gives (orderLength book) ≡ findOrder book buffer) × (after ≡ findBuffer book buffer)

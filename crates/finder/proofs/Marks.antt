@@ -1,99 +1,143 @@
--- Laws of the marks: what a lot that hinders a pair says, the lots passed, and a pair tried.
-use mathlib.Core.Path.{_≡_, refl, sym, _∙_, subst, subst₂, subst⁻¹}
-use mathlib.Core.Logic.{_⊎_, inl, inr, ⊎-elim, by-cases}
-use mathlib.Core.Bool.{true, false, not, _&&_, true≢false}
+-- Laws of what a lot says of a pair, and of the lots that are asked about it.
+use mathlib.Core.Path.{_≡_, refl, sym, _∙_, ap, subst, subst⁻¹}
+use mathlib.Core.Logic.{by-cases}
+use mathlib.Core.Bool.{Bool, true, false, not, _&&_, true≢false}
 use mathlib.Core.List.{List}
 use Prim.Native.Nat.{ℕ, _+_, _*_, _-_, _≤_, _<_}
 use native.Mathlib.Decide.{ℕ-discrete, decLt}
 use native.Mathlib.Omega.{arith}
-use borrow.Author.Tests.{eqb-true, eqb-false}
-use lib.Dec.{T, eqb, ltb, ltb→lt, lt→ltb, T-not, not-T, eqb→eq}
-use lib.ListN.{set, length-set}
-use lib.Seq.{getD-set-same, getD-set-other}
-use Rattle.transport.proofs.Laws.Tests.{T-true, T-ext, and-says, and-of}
+use lib.Dec.{ltb, ltb→lt, lt→ltb}
+use lib.ListN.{getD}
+use Rattle.transport.proofs.Laws.Tests.{T-true, T-of}
+use Rattle.specification.specs.Book.{bit}
 use Rattle.book.specs.Table.{entry}
-use Rattle.finder.specs.Slacks.{remains}
-use Rattle.finder.specs.Waiting.{hinders, Passed, Passes, Hindered, Lowest, Waits, Tried}
-use Rattle.finder.proofs.Tables.{positive, below-of, T-of}
+use Rattle.slacks.specs.Slacks.{Capped}
+use Rattle.words.specs.Words.{Below, Without, Minus}
+use Rattle.finder.specs.Words.{isLeft, Words}
+use Rattle.finder.specs.Rows.{gapAt, Rows}
+use Rattle.finder.specs.Waiting.{Fitting, LetsPass, Passes, Told, Waits}
+use Rattle.transport.proofs.Laws.Tests.{T-of}
+use Rattle.words.proofs.Sets.{bit-none}
 
--- the comparison with the greater of a least gap and a cost serves both
-pub exceeds-is : (least cost slack most : ℕ) → least ≤ most → cost ≤ most → (most ≡ least) ⊎ (most ≡ cost)
-    → ltb most (cost + slack) ≡ (not (eqb slack 0) && ltb least (cost + slack))
-exceeds-is least cost slack most a b o = T-ext (ltb most (cost + slack)) (not (eqb slack 0) && ltb least (cost + slack))
-    (λ t. let l = ltb→lt most (cost + slack) t in and-of (not (eqb slack 0)) (ltb least (cost + slack))
-    (not-T (eqb slack 0) (λ z. omega (arith, eqb→eq slack 0 z))) (lt→ltb least (cost + slack) (omega arith)))
-    (λ t. let (some, l) = and-says (not (eqb slack 0)) (ltb least (cost + slack)) t in lt→ltb most (cost + slack)
-    (⊎-elim (λ e. omega (arith, ltb→lt least (cost + slack) l))
-    (λ e. omega (arith, positive slack (λ z. T-not (eqb slack 0) some (rw z tt)))) o))
-
--- what lot k says of (i, j)
-module _ (live least : List ℕ) (i j k : ℕ) where
+module _ (slacks eligible lefts : List ℕ) (i j k : ℕ) where
   abbrev gap : ℕ
-  gap = 1000001 - entry live j i + entry live j k
+  gap = gapAt slacks i k j
 
-  pub hinders-says : hinders live least i j k ≡ true → T (remains live k j) × (entry least i k < gap)
-  hinders-says e =
-      let both = and-says (remains live k j) (ltb (entry least i k) gap) (T-of e) in
-      (both .0, ltb→lt (entry least i k) gap (both .1))
+  -- what lot k says where it is not eligible for a call left to lot i, and where it is for all
+  module _ (word : ℕ) (w : Minus (getD lefts i 0) (getD eligible k 0) word) where
+    split : (a b : Bool) → (a && not b) ≡ true → (a ≡ true) × (b ≡ true → ⊥)
+    split true true e = absurd (true≢false (sym e))
+    split true false e = (refl, λ f. true≢false (sym f))
+    split false b e = absurd (true≢false (sym e))
 
-  pub hinders-of : T (remains live k j) → entry least i k < gap → hinders live least i j k ≡ true
-  hinders-of t h =
-      T-true (hinders live least i j k) (and-of (remains live k j) (ltb (entry least i k) gap) t (lt→ltb (entry least i k) gap h))
+    kept : (a b : Bool) → (a && not b) ≡ false → a ≡ true → b ≡ true
+    kept true true e f = refl
+    kept true false e f = absurd (true≢false e)
+    kept false b e f = absurd (true≢false (sym f))
 
-  pub passes-says : hinders live least i j k ≡ false → T (remains live k j) → gap ≤ entry least i k
-  passes-says e t = by-cases (decLt (entry least i k) gap) (λ h. absurd (true≢false (sym (hinders-of t h) ∙ e))) (λ h. omega arith)
+    pub told-missing : 0 < word → isLeft lefts k j ≡ true → Told slacks eligible lefts i j k true
+    told-missing h held = record {
+      yes = λ e. let (l, low, hl) = w .some h in
+          let (on, off) = split (isLeft lefts i l) (isLeft eligible k l) (sym (w .each l) ∙ low .is-in) in
+          record { holds = held; call = l; call-in = hl; left = on; unfit = λ f. off (f .admitted) };
+      no = λ e. absurd (true≢false e);
+    }
 
-pub passed-more : (live least : List ℕ) (i j a k : ℕ) → Passed live least i j a k → hinders live least i j k ≡ false
-    → Passed live least i j a (k + 1)
-passed-more live least i j a k h e b ha hb = by-cases (ℕ-discrete b k)
-    (λ q. subst⁻¹ (λ (c : ℕ). hinders live least i j c ≡ false) q e)
-    (λ d. h b ha (below-of b k (omega arith) d))
+    all-eligible : word ≤ 0 → (l : ℕ) → isLeft lefts i l ≡ true → isLeft eligible k l ≡ true
+    all-eligible h l =
+        let z : word ≡ 0 = omega arith in
+        kept (isLeft lefts i l) (isLeft eligible k l) (sym (w .each l) ∙ ap (λ (v : ℕ). bit v l) z ∙ bit-none l)
 
--- a pair that a lot hinders cannot be taken
-pub hindered-not : (live least : List ℕ) (n i j k : ℕ) → Hindered live least n i j k → Passes live least n i j → ⊥
-hindered-not live least n i j k h p = true≢false (sym (h .by-it) ∙ p .passed k (omega arith) (h .lot-in))
+    module _ (h : word ≤ 0) (worked least : List ℕ) (q : Rows slacks lefts worked least) (hi : i < 32) (hk : k < 32) where
+      passes-below : gap ≤ entry least i k → LetsPass slacks eligible lefts i j k
+      passes-below le = record {
+        fits = λ held l hl on. record { admitted = all-eligible h l on; no-more = omega (arith, q .below i k l hi hk on) };
+      }
 
-module _ (live least : List ℕ) (n i j : ℕ) (hi : i < n) (hj : j < 32) (few : n ≤ 32) (waits : List ℕ) (h : Waits live least n waits) where
-  pub tried-none : (T (remains live i j) → ⊥) → Tried live least n i j false waits waits
-  tried-none off = record {
-    yes = λ e. absurd (true≢false (sym e));
-    no = λ e t. absurd (off t);
-    waits = h;
-    others = λ g l hg d. refl;
-  }
+      pub told-below : gap ≤ entry least i k → Told slacks eligible lefts i j k false
+      told-below le = record { yes = λ e. absurd (true≢false (sym e)); no = λ e. passes-below le }
 
-  pub tried-some : (w r : ℕ) → T (remains live i j) → w ≡ entry waits j i → Lowest live least n i j w r
-      → Tried live least n i j (eqb r n) waits (set waits (32 * j + i) r)
-  tried-some w r on e q = record {
-    yes = λ z. record { on = on; passed = subst (Passed live least i j 0) (eqb-true r n z) all };
-    no = λ z t. subst⁻¹ (Hindered live least n i j) at-it (q .hindered (below-of r n (q .within) (eqb-false r n z)));
-    waits = record {
-      within = λ g k hg hk. ⊎-elim
-          (λ z. rw (z .0, z .1, at-it) (q .within))
-          (λ d. rw (other g k (omega arith) d) (h .within g k hg hk))
-          (both-or-not g k);
-      passed = λ g k hg hk t. ⊎-elim
-          (λ z. subst₂ (λ (a b : ℕ). Passed live least a b 0 (entry after b a)) (sym (z .0)) (sym (z .1)) (subst⁻¹ (Passed live least i j 0) at-it all))
-          (λ d. subst⁻¹ (Passed live least g k 0) (other g k (omega arith) d) (h .passed g k hg hk t))
-          (both-or-not g k);
-      long = simp length-set (h .long);
-    };
-    others = other;
-  }
-    where
-      after : List ℕ
-      after = set waits (32 * j + i) r
+      -- where its least gaps stand for the calls left
+      pub told-fresh : getD worked i 0 ≡ getD lefts i 0 → isLeft lefts k j ≡ true → j < 32 → isLeft lefts i j ≡ true
+          → Told slacks eligible lefts i j k (ltb (entry least i k) gap)
+      told-fresh e held hj own = record {
+        yes = λ t. let r = q .reached i k j hi hk hj (ap (λ (v : ℕ). bit v j) e ∙ own) in
+            let lt = ltb→lt (entry least i k) gap (T-of t) in
+            record {
+              holds = held;
+              call = r .call;
+              call-in = r .call-in;
+              left = sym (ap (λ (v : ℕ). bit v (r .call)) e) ∙ r .is-in;
+              unfit = λ f. omega (arith, f .no-more, r .at-most, lt);
+            };
+        no = λ f. passes-below (by-cases (decLt (entry least i k) gap)
+            (λ lt. absurd (true≢false (sym (T-true (ltb (entry least i k) gap) (lt→ltb (entry least i k) gap lt)) ∙ f)))
+            (λ o. omega arith));
+      }
 
-      at-it : entry after j i ≡ r
-      at-it = getD-set-same waits (32 * j + i) r 0 (omega (arith, h .long))
+  -- a lot that has not the call lets the pair pass
+  passes-absent : isLeft lefts k j ≡ false → LetsPass slacks eligible lefts i j k
+  passes-absent e = record { fits = λ held. absurd (true≢false (sym held ∙ e)) }
 
-      other : (g k : ℕ) → g < 32 → ((g ≡ i) × (k ≡ j) → ⊥) → entry after k g ≡ entry waits k g
-      other g k hg d = getD-set-other waits (32 * j + i) (32 * k + g) r 0 (λ z. d (omega arith, omega arith))
+-- the lots that are to be asked about (i, j): they have call j, and each other lot lets it pass
+pub record ToAsk (slacks eligible lefts : List ℕ) (i j lots : ℕ) : Type 0 where
+  pub passed : (k : ℕ) → k < 32 → bit lots k ≡ false → LetsPass slacks eligible lefts i j k
+  pub holding : (k : ℕ) → k < 32 → bit lots k ≡ true → isLeft lefts k j ≡ true
 
-      both-or-not : (g k : ℕ) → ((g ≡ i) × (k ≡ j)) ⊎ ((g ≡ i) × (k ≡ j) → ⊥)
-      both-or-not g k = by-cases (ℕ-discrete g i)
-          (λ a. by-cases (ℕ-discrete k j) (λ b. inl (a, b)) (λ b. inr (λ z. b (z .1))))
-          (λ a. inr (λ z. a (z .0)))
+module _ (slacks eligible lefts : List ℕ) (i j : ℕ) where
+  module _ (capped : Capped slacks) (holders : List ℕ) (r : Words eligible lefts holders) (hi : i < 32) (hj : j < 32) where
+    -- the pair's own lot
+    passes-own : LetsPass slacks eligible lefts i j i
+    passes-own = record {
+      fits = λ held l hl on. record {
+        admitted = r .among i l hi hl on;
+        no-more = omega (arith, capped (32 * j + i), capped (32 * l + i));
+      };
+    }
 
-      all : Passed live least i j 0 r
-      all k z hk = by-cases (decLt k w) (λ l. h .passed i j hi hj on k z (omega arith)) (λ l. q .passed k (omega arith) hk)
+    pub to-ask-first : (waits : List ℕ) → Waits slacks eligible lefts waits → isLeft lefts i j ≡ true → (start below from lots : ℕ)
+        → start ≡ entry waits j i - 1 → Below (getD holders j 0) start below → Minus (getD holders j 0) below from → Without from i lots
+        → ToAsk slacks eligible lefts i j lots
+    to-ask-first waits h own start below from lots e b f w = record {
+      passed = λ k hk off. by-cases (ℕ-discrete k i)
+          (λ z. subst⁻¹ (LetsPass slacks eligible lefts i j) z passes-own)
+          (λ d. by-cases (decLt k start) (λ lt. h .passed i j k hi hj own (omega arith)) (λ o. passes-absent slacks eligible lefts i j k (sym (r .held k j hk hj)
+          ∙ unset (bit (getD holders j 0) k) (bit below k) (b .none k (omega arith)) (sym (f .each k) ∙ sym (w .others k d) ∙ off))));
+      holding = λ k hk on. by-cases (ℕ-discrete k i)
+          (λ z. absurd (true≢false (sym (subst (λ (g : ℕ). bit lots g ≡ true) z on) ∙ w .out)))
+          (λ d. sym (r .held k j hk hj) ∙ set-in (bit (getD holders j 0) k) (bit below k) (sym (f .each k) ∙ sym (w .others k d) ∙ on));
+    }
+      where
+        unset : (a b : Bool) → b ≡ false → (a && not b) ≡ false → a ≡ false
+        unset true true f e = absurd (true≢false f)
+        unset true false f e = e
+        unset false b f e = refl
+
+        set-in : (a b : Bool) → (a && not b) ≡ true → a ≡ true
+        set-in true b e = refl
+        set-in false b e = e
+
+    -- the last pair of its lot fits with each
+    pub passes-last : (word : ℕ) → Without (getD lefts i 0) j word → word ≡ 0 → isLeft lefts i j ≡ true → Passes slacks eligible lefts i j
+    passes-last word w z own = record {
+      on = own;
+      passed = λ k hk. record {
+        fits = λ held l hl on. by-cases (ℕ-discrete l j)
+            (λ e. subst⁻¹ (Fitting slacks eligible i j k) e (record { admitted = r .among k j hk hj held; no-more = omega arith }))
+            (λ d. absurd (true≢false (sym on ∙ sym (w .others l d) ∙ ap (λ (v : ℕ). bit v l) z ∙ bit-none l)));
+      };
+    }
+
+  module _ (lots : ℕ) (h : ToAsk slacks eligible lefts i j lots) where
+    pub to-ask-next : (k after : ℕ) → k < 32 → LetsPass slacks eligible lefts i j k → Without lots k after → ToAsk slacks eligible lefts i j after
+    to-ask-next k after hk p w = record {
+      passed = λ a ha e. by-cases (ℕ-discrete a k)
+          (λ z. subst⁻¹ (LetsPass slacks eligible lefts i j) z p)
+          (λ d. h .passed a ha (sym (w .others a d) ∙ e));
+      holding = λ a ha e. by-cases (ℕ-discrete a k)
+          (λ z. absurd (true≢false (sym (subst (λ (g : ℕ). bit after g ≡ true) z e) ∙ w .out)))
+          (λ d. h .holding a ha (sym (w .others a d) ∙ e));
+    }
+
+    pub passes-all : lots ≡ 0 → isLeft lefts i j ≡ true → Passes slacks eligible lefts i j
+    passes-all z own = record { on = own; passed = λ a ha. h .passed a ha (ap (λ (v : ℕ). bit v a) z ∙ bit-none a) }

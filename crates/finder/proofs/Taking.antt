@@ -1,180 +1,141 @@
--- A pair taken: what is kept of all that remains is again kept of what remains then. The rows of the pair's lot are worked out anew, and every
--- other lot's stay. A lot that let a pair pass lets it pass still, since pairs only go and least gaps only grow. A lot that hinders a pair
--- hinders it still, unless it was taken there, or the pair's own lot lost a call.
-use mathlib.Core.Path.{_≡_, sym, _∙_, ap, ap₂, subst, subst⁻¹}
-use mathlib.Core.Logic.{inl, inr, ⊎-elim, by-cases}
-use mathlib.Core.Bool.{Bool, true, false, not, _&&_, _||_, true≢false, and-false}
+-- A pair taken: what is kept of all that is left is again kept of what is left then. Least gaps stand, as no gap comes back. A lot that let a pair
+-- pass lets it pass still. A lot that hinders a pair hinders it still, unless it was taken there, or the pair's own lot lost a call.
+use mathlib.Core.Path.{_≡_, refl, sym, _∙_, ap, subst, subst⁻¹}
+use mathlib.Core.Logic.{_⊎_, ⊎-elim, by-cases}
+use mathlib.Core.Bool.{Bool, true, false, _||_, true≢false}
 use mathlib.Core.List.{List}
-use Prim.Native.Nat.{ℕ, _+_, _*_, _/_, _%_, _≤_, _<_}
+use Prim.Native.Nat.{ℕ, _+_, _*_, _<_}
 use native.Mathlib.Decide.{ℕ-discrete}
 use native.Mathlib.Omega.{arith}
-use borrow.Author.Tests.{eq-eqb, lt-leb}
-use lib.Dec.{T, eqb, leb}
-use lib.ListN.{getD, set, length-set}
+use borrow.Author.Tests.{eq-eqb, eqb-true}
+use lib.Dec.{eqb}
+use lib.ListN.{getD, length-set}
 use lib.Seq.{getD-set-same, getD-set-other}
-use Rattle.transport.proofs.Laws.Tests.{T-true, T-false, and-says, and-of}
-use Rattle.transport.proofs.Laws.Searches.{least-same, le-least, least-le, least-le-top}
 use Rattle.specification.specs.Book.{bit}
 use Rattle.book.specs.Table.{entry}
-use Rattle.finder.specs.Slacks.{remains}
-use Rattle.finder.specs.Words.{Above, Without, IncludingIf, Calls, Lefts}
-use Rattle.finder.specs.Rows.{gapAt, leastFrom, Tails, Begun, RowsOf, AllRows}
-use Rattle.finder.specs.Waiting.{hinders, Hindered, Waits, Asks, Asked}
+use Rattle.words.specs.Words.{IncludingIf}
+use Rattle.finder.specs.Words.{TakenFrom, isLeft, Words}
+use Rattle.finder.specs.Rows.{Rows}
+use Rattle.finder.specs.Waiting.{LetsPass, Hindered, Waits, Asks, takenMark, Taken}
 use Rattle.finder.specs.Work.{Holding}
-use Rattle.finder.proofs.Tables.{T-of}
-use Rattle.finder.proofs.BySlacks.{remains-says, capped-set}
-use Rattle.finder.proofs.Lowering.{tails-stay}
-use Rattle.finder.proofs.Marks.{hinders-says, hinders-of, passes-says}
+use Rattle.finder.proofs.Tables.{same-pair}
 use Rattle.finder.proofs.Asking.{if-unset}
 
--- call j leaves the word of lot i
-module _ (slacks : List ℕ) (n word i j after : ℕ) (w : Without word j after) where
-  fewer-calls : (l : ℕ) → bit after l ≡ true → bit word l ≡ true
-  fewer-calls l e = by-cases (ℕ-discrete l j)
-      (λ z. absurd (true≢false (sym e ∙ subst⁻¹ (λ (b : ℕ). bit after b ≡ false) z (w .out))))
-      (λ d. sym (w .others l d) ∙ e)
+module _ {i j : ℕ} {before after : List ℕ} (q : TakenFrom i j before after) where
+  pub gone : (a l : ℕ) → (a ≡ i) × (l ≡ j) → isLeft after a l ≡ false
+  gone a l (y, z) = rw (y, z) (q .own .out)
 
-  -- the calls above it are as they were
-  from-above : (l k : ℕ) → j < l → leastFrom slacks word i l k ≡ leastFrom slacks after i l k
-  from-above l k lt = least-same 32 _ _ (gapAt slacks i k) 2000001 (λ h hh. by-cases (ℕ-discrete h j)
-      (λ e. rw (lt-leb l h (omega arith)) (and-false (bit word h) ∙ sym (and-false (bit after h))))
-      (λ d. ap (λ (b : Bool). b && leb l h) (sym (w .others h d))))
+  pub stays : (a l : ℕ) → ((a ≡ i) × (l ≡ j) → ⊥) → isLeft after a l ≡ isLeft before a l
+  stays a l d = by-cases (ℕ-discrete a i)
+      (λ y. subst⁻¹ (λ (g : ℕ). isLeft after g l ≡ isLeft before g l) y (q .own .others l (λ z. d (y, z))))
+      (λ y. ap (λ (w : ℕ). bit w l) (q .others a y))
 
-  pub begun-then : (up : ℕ) (tails : List ℕ) → Tails slacks n word i 0 tails → Above after j up → Begun slacks n after i up tails
-  begun-then up tails h r = record {
-    stop = r .stop;
-    stand = λ l a t k hk. h l (omega arith) (⊎-elim (λ q. inl (q .0, fewer-calls l (q .1))) inr t) k hk
-        ∙ from-above l k (omega (arith, r .higher));
+  fewer : (a l : ℕ) → isLeft after a l ≡ true → isLeft before a l ≡ true
+  fewer a l e = ⊎-elim (λ z. absurd (true≢false (sym e ∙ gone a l z))) (λ d. sym (stays a l d) ∙ e) (same-pair a l i j)
+
+module _ (slacks eligible lefts holders least worked waits asks : List ℕ)
+    (h : Holding slacks eligible lefts holders least worked waits asks) (i j : ℕ) (hi : i < 32) (hj : j < 32)
+    (lefts′ holders′ waits′ asks′ : List ℕ) (q : Taken i j lefts lefts′ holders holders′ waits waits′ asks asks′) where
+  words-then : Words eligible lefts′ holders′
+  words-then = record {
+    among = λ a l ha hl e. h .words-hold .among a l ha hl (fewer (q .from-lot) a l e);
+    held = λ a l ha hl. ⊎-elim
+        (λ z. gone (q .from-call) l a (z .1, z .0) ∙ sym (gone (q .from-lot) a l z))
+        (λ d. stays (q .from-call) l a (λ z. d (z .1, z .0)) ∙ h .words-hold .held a l ha hl ∙ sym (stays (q .from-lot) a l d))
+        (same-pair a l i j);
+    lefts-long = q .from-lot .long ∙ h .words-hold .lefts-long;
+    holders-long = q .from-call .long ∙ h .words-hold .holders-long;
   }
 
-  -- least gaps only grow
-  least-grows : (k : ℕ) → leastFrom slacks word i 0 k ≤ leastFrom slacks after i 0 k
-  least-grows k = le-least (λ l. bit after l && leb 0 l) (gapAt slacks i k) 2000001 32 (leastFrom slacks word i 0 k)
-      (least-le-top (λ l. bit word l && leb 0 l) (gapAt slacks i k) 2000001 32)
-      (λ l hl t. let both = and-says (bit after l) (leb 0 l) t in
-      least-le (λ a. bit word a && leb 0 a) (gapAt slacks i k) 2000001 32 l hl
-      (and-of (bit word l) (leb 0 l) (T-of (fewer-calls l (T-true (bit after l) (both .0)))) (both .1)))
+  rows-then : Rows slacks lefts′ worked least
+  rows-then = record {
+    below = λ a k l ha hk e. h .rows-hold .below a k l ha hk (fewer (q .from-lot) a l e);
+    reached = h .rows-hold .reached;
+    least-long = h .rows-hold .least-long;
+    worked-long = h .rows-hold .worked-long;
+  }
 
--- the pair at place x is taken
-module _ (slacks : List ℕ) (n : ℕ) (few : n ≤ 32) (live tails least waits asks lefts : List ℕ)
-    (h : Holding slacks n live tails least waits asks lefts) (x : ℕ) (hx : x < 1024) (hi : x / 32 < n) where
-  abbrev gone : List ℕ
-  gone = set live (32 * (x % 32) + x / 32) 0
+  -- the mark of the pair says so, and the others are as they were
+  mark-gone : entry waits′ j i ≡ takenMark
+  mark-gone = ap (λ (w : List ℕ). entry w j i) (q .marked) ∙ getD-set-same waits (32 * j + i) takenMark 0 (omega (arith, h .marks-hold .waits-hold .long))
 
-  -- its slack alone goes
-  cell-other : (a l : ℕ) → a < 32 → ((a ≡ x / 32) × (l ≡ x % 32) → ⊥) → entry gone l a ≡ entry live l a
-  cell-other a l ha d = getD-set-other live (32 * (x % 32) + x / 32) (32 * l + a) 0 0 (λ e. d (omega arith, omega arith))
+  mark-stays : (a l : ℕ) → a < 32 → ((a ≡ i) × (l ≡ j) → ⊥) → entry waits′ l a ≡ entry waits l a
+  mark-stays a l ha d = ap (λ (w : List ℕ). entry w l a) (q .marked)
+      ∙ getD-set-other waits (32 * j + i) (32 * l + a) takenMark 0 (λ e. d (omega arith, omega arith))
 
-  cell-gone : entry gone (x % 32) (x / 32) ≡ 0
-  cell-gone = getD-set-same live (32 * (x % 32) + x / 32) 0 0 (omega (arith, h .live-long))
+  waits-then : Waits slacks eligible lefts′ waits′
+  waits-then = record {
+    passed = λ a l k ha hl t b. ⊎-elim
+        (λ z. absurd (true≢false (sym t ∙ gone (q .from-lot) a l z)))
+        (λ d. still a l k (h .marks-hold .waits-hold .passed a l k ha hl (fewer (q .from-lot) a l t) (omega (arith, mark-stays a l ha d))))
+        (same-pair a l i j);
+    waiting = λ a l k ha hl hk e. ⊎-elim
+        (λ (y, z). absurd (omega (arith, mark-gone, subst (λ (g : ℕ). entry waits′ g i ≡ k + 1) z (subst (λ (g : ℕ). entry waits′ l g ≡ k + 1) y e))))
+        (λ d. stays (q .from-lot) a l d ∙ h .marks-hold .waits-hold .waiting a l k ha hl hk (sym (mark-stays a l ha d) ∙ e))
+        (same-pair a l i j);
+    long = rw (q .marked) (simp length-set (h .marks-hold .waits-hold .long));
+  }
+    where
+      still : (a l k : ℕ) → LetsPass slacks eligible lefts a l k → LetsPass slacks eligible lefts′ a l k
+      still a l k p = record { fits = λ held c hc on. p .fits (fewer (q .from-lot) k l held) c hc (fewer (q .from-lot) a c on) }
 
-  stays : (a l : ℕ) → a < n → T (remains gone a l) → entry gone l a ≡ entry live l a
-  stays a l ha t = cell-other a l (omega arith)
-      (λ z. omega (arith, remains-says gone a l t, ap₂ (λ (b k : ℕ). entry gone k b) (z .0) (z .1) ∙ cell-gone))
+  asks-then : Asks slacks eligible lefts′ waits′ asks′
+  asks-then = record {
+    each = λ a l ha hl t e. by-cases (ℕ-discrete a i)
+        (λ z. absurd (true≢false (sym (subst (λ (g : ℕ). isLeft lefts′ g l ≡ true) z t) ∙ sym (own l) ∙ subst (λ (g : ℕ). isLeft asks′ g l ≡ false) z e)))
+        (λ d. let t′ = fewer (q .from-lot) a l t in
+        let r = q .asked a ha d in
+        subst⁻¹ (Hindered slacks eligible lefts′ a l) (mark-stays a l ha (λ z. d (z .0)))
+        (still a l d (h .marks-hold .asks-hold .each a l ha hl t′ (if-unset _ _ _ _ l r e)) (not-for a l ha d r e)));
+    among = λ a l ha hl e. by-cases (ℕ-discrete a i)
+        (λ z. subst⁻¹ (λ (g : ℕ). isLeft lefts′ g l ≡ true) z (sym (own l) ∙ subst (λ (g : ℕ). isLeft asks′ g l ≡ true) z e))
+        (λ d. asked-left a l ha hl d (q .asked a ha d) e);
+    long = q .long ∙ h .marks-hold .asks-hold .long;
+  }
+    where
+      own : (l : ℕ) → isLeft asks′ i l ≡ isLeft lefts′ i l
+      own l = ap (λ (w : ℕ). bit w l) (q .own)
 
-  fewer : (a l : ℕ) → a < n → T (remains gone a l) → T (remains live a l)
-  fewer a l ha t = subst T (ap (λ (v : ℕ). not (eqb v 0)) (stays a l ha t)) t
+      -- a pair whose call is not asked for does not wait for the one that is taken
+      not-for : (a l : ℕ) → a < 32 → (a ≡ i → ⊥) → IncludingIf (eqb (entry waits′ j a) (i + 1)) (getD asks a 0) j (getD asks′ a 0) → isLeft asks′ a l ≡ false
+          → (entry waits l a ≡ i + 1) × (l ≡ j) → ⊥
+      not-for a l ha d r e (m, z) = true≢false (sym (r .own ∙ ap (λ (b : Bool). b || isLeft asks a j) (eq-eqb (entry waits′ j a) (i + 1)
+          (mark-stays a j ha (λ y. d (y .0)) ∙ subst (λ (g : ℕ). entry waits g a ≡ i + 1) z m))) ∙ subst (λ (g : ℕ). isLeft asks′ a g ≡ false) z e)
 
-  -- its call leaves the word of its lot, whose rows are worked out
-  module _ (word : ℕ) (w : Without (getD lefts (x / 32) 0) (x % 32) word) (tails′ least′ : List ℕ)
-      (q : RowsOf slacks n word (x / 32) tails tails′ least least′) where
-    at-it : getD (set lefts (x / 32) word) (x / 32) 0 ≡ word
-    at-it = getD-set-same lefts (x / 32) word 0 (omega (arith, h .lefts-hold .long))
+      still : (a l : ℕ) → (a ≡ i → ⊥) → Hindered slacks eligible lefts a l (entry waits l a) → ((entry waits l a ≡ i + 1) × (l ≡ j) → ⊥)
+          → Hindered slacks eligible lefts′ a l (entry waits l a)
+      still a l d p off = record {
+        lot = p .lot;
+        lot-in = p .lot-in;
+        named = p .named;
+        by-it = record {
+          holds = stays (q .from-lot) (p .lot) l (λ z. off (p .named ∙ ap (λ (g : ℕ). g + 1) (z .0), z .1)) ∙ p .by-it .holds;
+          call = p .by-it .call;
+          call-in = p .by-it .call-in;
+          left = stays (q .from-lot) a (p .by-it .call) (λ z. d (z .0)) ∙ p .by-it .left;
+          unfit = p .by-it .unfit;
+        };
+      }
 
-    left-then : Calls gone (x / 32) word
-    left-then l hl = by-cases (ℕ-discrete l (x % 32))
-        (λ e. subst⁻¹ (λ (b : ℕ). bit word b ≡ remains gone (x / 32) b) e (w .out ∙ sym (ap (λ (v : ℕ). not (eqb v 0)) cell-gone)))
-        (λ d. w .others l d ∙ h .lefts-hold .each (x / 32) hi l hl
-        ∙ ap (λ (v : ℕ). not (eqb v 0)) (sym (cell-other (x / 32) l (omega arith) (λ z. d (z .1)))))
+      old : (a l : ℕ) → a < 32 → l < 32 → (a ≡ i → ⊥) → isLeft asks a l ≡ true → isLeft lefts′ a l ≡ true
+      old a l ha hl d e = stays (q .from-lot) a l (λ z. d (z .0)) ∙ h .marks-hold .asks-hold .among a l ha hl e
 
-    lefts-then : Lefts gone n (set lefts (x / 32) word)
-    lefts-then = record {
-      each = λ a ha. by-cases (ℕ-discrete a (x / 32))
-          (λ e. subst⁻¹ (λ (b : ℕ). Calls gone b (getD (set lefts (x / 32) word) b 0)) e (subst⁻¹ (Calls gone (x / 32)) at-it left-then))
-          (λ d. subst⁻¹ (Calls gone a) (getD-set-other lefts (x / 32) a word 0 d) (λ l hl. h .lefts-hold .each a ha l hl
-          ∙ ap (λ (v : ℕ). not (eqb v 0)) (sym (cell-other a l (omega arith) (λ z. d (z .0))))));
-      long = simp length-set (h .lefts-hold .long);
-    }
+      asked-left : (a l : ℕ) → a < 32 → l < 32 → (a ≡ i → ⊥) → IncludingIf (eqb (entry waits′ j a) (i + 1)) (getD asks a 0) j (getD asks′ a 0)
+          → isLeft asks′ a l ≡ true → isLeft lefts′ a l ≡ true
+      asked-left a l ha hl d r e = by-cases (ℕ-discrete l j)
+          (λ z. subst⁻¹ (λ (g : ℕ). isLeft lefts′ a g ≡ true) z
+          (either (eqb (entry waits′ j a) (i + 1)) refl (sym (r .own) ∙ subst (λ (g : ℕ). isLeft asks′ a g ≡ true) z e)))
+          (λ z. old a l ha hl d (sym (r .others l z) ∙ e))
+        where
+          either : (b : Bool) → eqb (entry waits′ j a) (i + 1) ≡ b → (b || isLeft asks a j) ≡ true → isLeft lefts′ a j ≡ true
+          either true f o = waits-then .waiting a j i ha hj hi (eqb-true (entry waits′ j a) (i + 1) f)
+          either false f o = old a j ha hj d o
 
-    rows-then : AllRows slacks (set lefts (x / 32) word) n n tails′ least′
-    rows-then = record {
-      stand = λ a ha. by-cases (ℕ-discrete a (x / 32))
-          (λ e. subst⁻¹ (λ (b : ℕ). Tails slacks n (getD (set lefts (x / 32) word) b 0) b 0 tails′) e
-          (subst⁻¹ (λ (v : ℕ). Tails slacks n v (x / 32) 0 tails′) at-it (q .stand)))
-          (λ d. subst⁻¹ (λ (v : ℕ). Tails slacks n v a 0 tails′) (getD-set-other lefts (x / 32) a word 0 d)
-          (tails-stay slacks n (getD lefts a 0) a (x / 32) tails tails′ few d (h .rows-hold .stand a ha) (q .apart)));
-      rows = λ a ha k hk. by-cases (ℕ-discrete a (x / 32))
-          (λ e. subst⁻¹ (λ (b : ℕ). entry least′ b k ≡ leastFrom slacks (getD (set lefts (x / 32) word) b 0) b 0 k) e
-          (q .row .passed k hk ∙ ap (λ (v : ℕ). leastFrom slacks v (x / 32) 0 k) (sym at-it)))
-          (λ d. q .row .others a k d (omega arith) ∙ h .rows-hold .rows a ha k hk
-          ∙ ap (λ (v : ℕ). leastFrom slacks v a 0 k) (sym (getD-set-other lefts (x / 32) a word 0 d)));
-      tails-long = q .apart .long ∙ h .rows-hold .tails-long;
-      least-long = q .row .long ∙ h .rows-hold .least-long;
-    }
-
-    grows : (a k : ℕ) → a < n → k < n → entry least a k ≤ entry least′ a k
-    grows a k ha hk = by-cases (ℕ-discrete a (x / 32))
-        (λ e. subst⁻¹ (λ (b : ℕ). entry least b k ≤ entry least′ b k) e (omega (
-          arith,
-          h .rows-hold .rows (x / 32) hi k hk,
-          q .row .passed k hk,
-          least-grows slacks n (getD lefts (x / 32) 0) (x / 32) (x % 32) word w k,
-        )))
-        (λ d. omega (arith, q .row .others a k d (omega arith)))
-
-    waits-then : Waits gone least′ n waits
-    waits-then = record {
-      within = h .marks-hold .waits-hold .within;
-      passed = λ a l ha hl t k z hk. let hk′ : k < n = omega (arith, h .marks-hold .waits-hold .within a l ha hl) in
-          T-false (hinders gone least′ a l k) (λ u. let (on, lt) = hinders-says gone least′ a l k (T-true (hinders gone least′ a l k) u) in
-          omega (
-            arith,
-            passes-says live least a l k (h .marks-hold .waits-hold .passed a l ha hl (fewer a l ha t) k z hk) (fewer k l hk′ on),
-            stays a l ha t,
-            stays k l hk′ on,
-            grows a k ha hk′,
-          ));
-      long = h .marks-hold .waits-hold .long;
-    }
-
-    asks-then : (asks′ : List ℕ) → Asked waits n (x / 32) (x % 32) asks asks′ → getD asks′ (x / 32) 0 ≡ word → Asks gone least′ n waits asks′
-    asks-then asks′ u own = record {
-      each = λ a l ha hl t e. by-cases (ℕ-discrete a (x / 32))
-          (λ z. absurd (true≢false (sym (left-then l hl ∙ T-true (remains gone (x / 32) l) (subst (λ (b : ℕ). T (remains gone b l)) z t))
-          ∙ sym (ap (λ (v : ℕ). bit v l) own) ∙ subst (λ (b : ℕ). bit (getD asks′ b 0) l ≡ false) z e)))
-          (λ d. let i = u .passed a ha d in
-          still a l ha d t (h .marks-hold .asks-hold .each a l ha hl (fewer a l ha t) (if-unset _ _ _ _ l i e)) (asked-not a l i e));
-      long = u .long ∙ h .marks-hold .asks-hold .long;
-    }
-      where
-        -- a pair whose call is not asked for does not wait for the one that is taken
-        asked-not : (a l : ℕ) → IncludingIf (eqb (entry waits (x % 32) a) (x / 32)) (getD asks a 0) (x % 32) (getD asks′ a 0)
-            → bit (getD asks′ a 0) l ≡ false → (entry waits l a ≡ x / 32) × (l ≡ x % 32) → ⊥
-        asked-not a l i e z = true≢false (sym (i .own ∙ ap (λ (b : Bool). b || bit (getD asks a 0) (x % 32))
-            (eq-eqb (entry waits (x % 32) a) (x / 32) (subst (λ (b : ℕ). entry waits b a ≡ x / 32) (z .1) (z .0))))
-            ∙ subst (λ (b : ℕ). bit (getD asks′ a 0) b ≡ false) (z .1) e)
-
-        still : (a l : ℕ) → a < n → (a ≡ x / 32 → ⊥) → T (remains gone a l) → Hindered live least n a l (entry waits l a)
-            → ((entry waits l a ≡ x / 32) × (l ≡ x % 32) → ⊥) → Hindered gone least′ n a l (entry waits l a)
-        still a l ha d t held elsewhere =
-            let k = entry waits l a in
-            let hk : k < 32 = omega (arith, held .lot-in) in
-            let (on, lt) = hinders-says live least a l k (held .by-it) in
-            let same = cell-other k l hk elsewhere in
-            record {
-              lot-in = held .lot-in;
-              by-it = hinders-of gone least′ a l k (subst T (ap (λ (v : ℕ). not (eqb v 0)) (sym same)) on)
-                  (omega (arith, same, stays a l ha t, q .row .others a k d hk));
-            }
-
-    -- all of it
-    pub holding-then : (asks′ : List ℕ) → Asked waits n (x / 32) (x % 32) asks asks′ → getD asks′ (x / 32) 0 ≡ word
-        → Holding slacks n gone tails′ least′ waits asks′ (set lefts (x / 32) word)
-    holding-then asks′ u own = record {
-      live-holds = λ a l ha hl t. stays a l ha t ∙ h .live-holds a l ha hl (fewer a l ha t);
-      capped = capped-set live _ 0 (h .capped) (omega arith) (omega (arith, h .live-long));
-      live-long = simp length-set (h .live-long);
-      rows-hold = rows-then;
-      marks-hold = record { waits-hold = waits-then; asks-hold = asks-then asks′ u own };
-      lefts-hold = lefts-then;
-    }
+  -- all of it
+  pub holding-then : Holding slacks eligible lefts′ holders′ least worked waits′ asks′
+  holding-then = record {
+    capped = h .capped;
+    words-hold = words-then;
+    rows-hold = rows-then;
+    marks-hold = record { waits-hold = waits-then; asks-hold = asks-then };
+  }

@@ -16,10 +16,10 @@ use Rattle.transport.proofs.Finder.Find.{find-is-order}
 use Rattle.specification.specs.Bytes.{orderMark}
 use Rattle.files.specs.Files.{writeOpening}
 use Rattle.specification.specs.OrderFile.{pairs, pairBytes, orderFile}
-use Rattle.finder.specs.Work.{Finds}
+use Rattle.slacks.specs.Found.{Finds}
 use Rattle.finder.specs.Writing.{Copied, Orders}
-use Rattle.finder.specs.declared.inner.Search.{Search}
-use Rattle.finder.specs.declared.inner.Search.the-variants.{Found, Nothing}
+use Rattle.slacks.specs.declared.Search.{Search}
+use Rattle.slacks.specs.declared.Search.the-variants.{Found, Nothing}
 
 -- the opening of an order of at most 1,024 pairs
 opening-is : (count : ℕ) (before : List ℕ) → count ≤ 1024 → 7 ≤ length before
@@ -51,12 +51,12 @@ copied-more src b start k now r hs hb =
         (sym (drop-drop 1 (start + k) now) ∙ ap (drop 1) (r .behind) ∙ drop-drop 1 (start + k) b)
 
 -- the pairs that bytes hold
-pub pairs-length : (n : ℕ) (s : List ℕ) → length (pairs n s) ≡ n
+pairs-length : (n : ℕ) (s : List ℕ) → length (pairs n s) ≡ n
 unfolding pairs
 pairs-length zero s = refl
 pairs-length (suc n) s = ap suc (pairs-length n (drop 2 s))
 
-pub pairs-bytes : (n : ℕ) (s : List ℕ) → 2 * n ≤ length s → pairBytes (pairs n s) ≡ take (2 * n) s
+pairs-bytes : (n : ℕ) (s : List ℕ) → 2 * n ≤ length s → pairBytes (pairs n s) ≡ take (2 * n) s
 unfolding pairs pairBytes
 pairs-bytes zero s h = refl
 pairs-bytes (suc n) [] h = absurd (omega arith)
@@ -65,12 +65,12 @@ pairs-bytes (suc n) (a ∷ b ∷ s) h =
     let e : 2 * suc n ≡ suc (suc (2 * n)) = omega arith in
     rw e (ap (λ (l : List ℕ). a ∷ b ∷ l) (pairs-bytes n s (omega arith)))
 
-pub pairs-back : (S : List Pair) (t : List ℕ) → pairs (length S) (pairBytes S ++ t) ≡ S
+pairs-back : (S : List Pair) (t : List ℕ) → pairs (length S) (pairBytes S ++ t) ≡ S
 unfolding pairs pairBytes
 pairs-back [] t = refl
 pairs-back (p ∷ S) t = ap (λ (U : List Pair). p ∷ U) (pairs-back S t)
 
-pub pairs-found : (S : List Pair) (s : List ℕ) → take (2 * length S) s ≡ pairBytes S → pairs (length S) s ≡ S
+pairs-found : (S : List Pair) (s : List ℕ) → take (2 * length S) s ≡ pairBytes S → pairs (length S) s ≡ S
 pairs-found S s e = ap (pairs (length S)) (sym (take-append-drop (2 * length S) s))
     ∙ ap (λ (l : List ℕ). pairs (length S) (l ++ drop (2 * length S) s)) e ∙ pairs-back S (drop (2 * length S) s)
 

@@ -1,9 +1,8 @@
--- The problem that a table of slacks states, and what the finder's work arrays hold.
-pub mod Table
-pub mod Slacks
-pub mod Words
-pub mod Rows
-pub mod Waiting
-pub mod Work
-pub mod Ranked
-pub mod Writing
+-- What the finder's work arrays hold.
+pub mod Filling  -- a table of slacks filled from the book's rows
+pub mod Table  -- a table filled row by row
+pub mod Words  -- words of lots and calls
+pub mod Rows  -- least gaps
+pub mod Waiting  -- which pair is next, and the marks of the pairs that wait
+pub mod Work  -- all that the search by least gaps keeps
+pub mod Writing  -- the order file that is written

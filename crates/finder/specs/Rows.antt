@@ -1,57 +1,56 @@
--- The least gaps of a lot over the calls of a word from one on. The rows of lot i are 33 * i to 33 * i + 32, one for each call and the last
--- for no call.
+-- The least gaps of a lot. They are worked out for the calls left to it, and stand while some of these are taken.
 use mathlib.Core.Path.{_≡_}
-use mathlib.Core.Logic.{_⊎_}
-use mathlib.Core.Bool.{cond, _&&_}
+use mathlib.Core.Bool.{true, false}
 use mathlib.Core.List.{List}
-use Prim.Native.Nat.{ℕ, _+_, _*_, _-_, _≤_, _<_}
-use lib.Dec.{eqb, leb}
+use Prim.Native.Nat.{ℕ, suc, _+_, _*_, _-_, _≤_, _<_, min}
 use lib.ListN.{length, getD}
-use Rattle.transport.proofs.Laws.Searches.{least}
-use Rattle.specification.specs.Book.{bit}
+use Rattle.specification.specs.Book.{costLimit, bit}
 use Rattle.book.specs.Table.{entry}
-use Rattle.finder.specs.Table.{Filled}
-use Rattle.finder.specs.Words.{Stop}
+use Rattle.finder.specs.Words.{isLeft}
 
--- the gap of a cost over a lot by its slack
-abbrev pub gapBy : ℕ → ℕ → ℕ
-gapBy cost slack = cond (eqb slack 0) 0 (cost + slack)
+-- no gap is above it
+abbrev pub gapTop : ℕ
+gapTop = 2 * suc costLimit
 
--- the gap of lot i over lot k at call j
+-- the gap of lot i over lot k at call l: the difference of their costs, raised so that it is no negative number
 abbrev pub gapAt : List ℕ → ℕ → ℕ → ℕ → ℕ
-gapAt slacks i k j = gapBy (1000001 - entry slacks j i) (entry slacks j k)
+gapAt slacks i k l = suc costLimit - entry slacks l i + entry slacks l k
 
--- the least of these at the calls of the word from l on
-abbrev pub leastFrom : List ℕ → ℕ → ℕ → ℕ → ℕ → ℕ
-leastFrom slacks word i l k = least 32 (λ j. bit word j && leb l j) (gapAt slacks i k) 2000001
+-- a row of 32 numbers that gaps can be
+pub record LowRow (row : List ℕ) : Type 0 where
+  pub low : (k : ℕ) → k < 32 → getD row k 0 ≤ gapTop
+  pub long : length row ≡ 32
 
--- the rows of lot i for the calls of the word from `above` on, and for 32, hold its least gaps over n lots
-abbrev pub Tails : List ℕ → ℕ → ℕ → ℕ → ℕ → List ℕ → Type 0
-Tails slacks n word i above tails = (l : ℕ) → above ≤ l → Stop word l → (k : ℕ) → k < n → entry tails (33 * i + l) k ≡ leastFrom slacks word i l k
-
--- the last row of each lot holds the top
-abbrev pub Ends : ℕ → List ℕ → Type 0
-Ends n tails = (i : ℕ) → i < n → (k : ℕ) → k < n → entry tails (33 * i + 32) k ≡ 2000001
-
--- the rows of other lots are as they were
-pub record Apart (i : ℕ) (before after : List ℕ) : Type 0 where
-  pub others : (g k : ℕ) → (g < 33 * i) ⊎ (33 * i + 32 < g) → k < 32 → entry after g k ≡ entry before g k
+-- the first numbers of a row are lowered to f's at most, and the others are as they were
+pub record Lowered (f : ℕ → ℕ) (count : ℕ) (before after : List ℕ) : Type 0 where
+  pub passed : (k : ℕ) → k < count → getD after k 0 ≡ min (getD before k 0) (f k)
+  pub later : (k : ℕ) → count ≤ k → getD after k 0 ≡ getD before k 0
   pub long : length after ≡ length before
 
--- the rows of lot i from `up` on, which is one of them, stand
-pub record Begun (slacks : List ℕ) (n word i up : ℕ) (tails : List ℕ) : Type 0 where
-  pub stop : Stop word up
-  pub stand : Tails slacks n word i up tails
+-- at a call in the word, the gap of lot i over lot k is at most v
+pub record Reached (slacks : List ℕ) (word i k v : ℕ) : Type 0 where
+  pub call : ℕ
+  pub call-in : call < 32
+  pub is-in : bit word call ≡ true
+  pub at-most : gapAt slacks i k call ≤ v
 
--- the rows of lot i, and its row of least gaps, were worked out
-pub record RowsOf (slacks : List ℕ) (n word i : ℕ) (tails tails′ least least′ : List ℕ) : Type 0 where
-  pub stand : Tails slacks n word i 0 tails′
-  pub apart : Apart i tails tails′
-  pub row : Filled i (leastFrom slacks word i 0) n least least′
+-- the row was lowered by the calls that are in the word and not among those to come
+pub record LoweredBy (slacks : List ℕ) (word i calls : ℕ) (row : List ℕ) : Type 0 where
+  pub below : (k l : ℕ) → k < 32 → bit word l ≡ true → bit calls l ≡ false → getD row k 0 ≤ gapAt slacks i k l
+  pub reached : (k : ℕ) → k < 32 → getD row k 0 < gapTop → Reached slacks word i k (getD row k 0)
+  pub inside : (l : ℕ) → bit calls l ≡ true → bit word l ≡ true
+  pub low-row : LowRow row
 
--- the rows of the first lots, each by its word
-pub record AllRows (slacks words : List ℕ) (n count : ℕ) (tails least : List ℕ) : Type 0 where
-  pub stand : (i : ℕ) → i < count → Tails slacks n (getD words i 0) i 0 tails
-  pub rows : (i : ℕ) → i < count → (k : ℕ) → k < n → entry least i k ≡ leastFrom slacks (getD words i 0) i 0 k
-  pub tails-long : length tails ≡ 33792
+-- the row of lot i holds its least gaps at the calls in the word, and the others are as they were
+pub record WorkedOut (slacks : List ℕ) (word i : ℕ) (before after : List ℕ) : Type 0 where
+  pub below : (k l : ℕ) → k < 32 → bit word l ≡ true → entry after i k ≤ gapAt slacks i k l
+  pub reached : (k l : ℕ) → k < 32 → l < 32 → bit word l ≡ true → Reached slacks word i k (entry after i k)
+  pub others : (g k : ℕ) → (g ≡ i → ⊥) → k < 32 → entry after g k ≡ entry before g k
+  pub long : length after ≡ length before
+
+-- no number of a lot is above its gaps that are left, and each is reached by those at the calls that it was worked out for
+pub record Rows (slacks lefts worked least : List ℕ) : Type 0 where
+  pub below : (i k l : ℕ) → i < 32 → k < 32 → isLeft lefts i l ≡ true → entry least i k ≤ gapAt slacks i k l
+  pub reached : (i k l : ℕ) → i < 32 → k < 32 → l < 32 → isLeft worked i l ≡ true → Reached slacks (getD worked i 0) i k (entry least i k)
   pub least-long : length least ≡ 1024
+  pub worked-long : length worked ≡ 32

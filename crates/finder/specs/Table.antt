@@ -1,15 +1,9 @@
--- What the finder asks of a book and a table of offsets, and a table filled row by row.
+-- A table filled row by row.
 use mathlib.Core.Path.{_≡_}
 use mathlib.Core.List.{List}
-use Prim.Native.Nat.{ℕ, _≤_, _<_}
+use Prim.Native.Nat.{ℕ, _<_}
 use lib.ListN.{length}
-use Rattle.book.specs.Table.{entry, Tabled}
-
--- at most 32 lots and 32 calls, and a table of places in the book with costs within the limit
-pub record Stated (book table : List ℕ) (n m : ℕ) : Type 0 where
-  pub lots-few : n ≤ 32
-  pub calls-few : m ≤ 32
-  pub tabled : Tabled book table
+use Rattle.book.specs.Table.{entry}
 
 -- the first entries of row i are f's, and every other row is as it was
 pub record Filled (i : ℕ) (f : ℕ → ℕ) (count : ℕ) (before after : List ℕ) : Type 0 where

@@ -1,53 +1,42 @@
--- Words of calls: call j is in a word where its bit j is set.
+-- The words of the search: for each lot, the calls that it is eligible for and those left to it; for each call, the lots that still have it.
 use mathlib.Core.Path.{_≡_}
-use mathlib.Core.Logic.{_⊎_}
-use mathlib.Core.Bool.{Bool, true, false, _||_}
+use mathlib.Core.Bool.{Bool, true, false}
 use mathlib.Core.List.{List}
 use Prim.Native.Nat.{ℕ, _≤_, _<_}
 use lib.ListN.{length, getD}
 use Rattle.specification.specs.Book.{bit}
-use Rattle.finder.specs.Slacks.{remains}
+use Rattle.words.specs.Words.{Without, IncludingIf}
+use Rattle.slacks.specs.Slacks.{remains}
 
--- r is the lowest call in the word
-pub record LowestIn (word r : ℕ) : Type 0 where
-  pub is-in : bit word r ≡ true
-  pub none-below : (l : ℕ) → l < r → bit word l ≡ false
+-- the word has the numbers below count at which the test holds, and no other
+pub record Begins (test : ℕ → Bool) (count word : ℕ) : Type 0 where
+  pub first : (j : ℕ) → j < count → bit word j ≡ test j
+  pub none : (j : ℕ) → count ≤ j → bit word j ≡ false
 
--- r is the highest call in the word
-pub record HighestIn (word r : ℕ) : Type 0 where
-  pub is-in : bit word r ≡ true
-  pub none-above : (l : ℕ) → r < l → bit word l ≡ false
+-- j is put into each of the first words at which the test holds
+pub record Included (test : ℕ → Bool) (count j : ℕ) (before after : List ℕ) : Type 0 where
+  pub passed : (k : ℕ) → k < count → IncludingIf (test k) (getD before k 0) j (getD after k 0)
+  pub later : (k : ℕ) → count ≤ k → getD after k 0 ≡ getD before k 0
+  pub long : length after ≡ length before
 
--- a call in the word, or 32
-abbrev pub Stop : ℕ → ℕ → Type 0
-Stop word l = ((l < 32) × (bit word l ≡ true)) ⊎ (l ≡ 32)
+-- j is taken out of word i, and the others are as they were
+pub record TakenFrom (i j : ℕ) (before after : List ℕ) : Type 0 where
+  pub own : Without (getD before i 0) j (getD after i 0)
+  pub others : (k : ℕ) → (k ≡ i → ⊥) → getD after k 0 ≡ getD before k 0
+  pub long : length after ≡ length before
 
--- r is such a stop, above j
-pub record Above (word j r : ℕ) : Type 0 where
-  pub stop : Stop word r
-  pub higher : j < r
+-- (i, j) is left
+abbrev pub isLeft : List ℕ → ℕ → ℕ → Bool
+isLeft lefts i j = bit (getD lefts i 0) j
 
--- the calls of the word below call j
-pub record Below (word j after : ℕ) : Type 0 where
-  pub lower : (l : ℕ) → l < j → bit after l ≡ bit word l
-  pub none : (l : ℕ) → j ≤ l → bit after l ≡ false
+-- each of n lots has the calls at which it has slack, and no other lot has any
+pub record Eligible (slacks : List ℕ) (n : ℕ) (eligible : List ℕ) : Type 0 where
+  pub each : (i j : ℕ) → i < n → j < 32 → isLeft eligible i j ≡ remains slacks i j
+  pub beyond : (i : ℕ) → n ≤ i → getD eligible i 0 ≡ 0
 
--- call j is taken out of the word, which then is a lower number
-pub record Without (word j after : ℕ) : Type 0 where
-  pub out : bit after j ≡ false
-  pub others : (l : ℕ) → (l ≡ j → ⊥) → bit after l ≡ bit word l
-  pub lower : bit word j ≡ true → after < word
-
--- call j is put into the word where the test holds
-pub record IncludingIf (test : Bool) (word j after : ℕ) : Type 0 where
-  pub own : bit after j ≡ (test || bit word j)
-  pub others : (l : ℕ) → (l ≡ j → ⊥) → bit after l ≡ bit word l
-
--- the word has the calls at which lot i has slack
-abbrev pub Calls : List ℕ → ℕ → ℕ → Type 0
-Calls slacks i word = (j : ℕ) → j < 32 → bit word j ≡ remains slacks i j
-
--- so has the word of each of the first lots
-pub record Lefts (slacks : List ℕ) (n : ℕ) (words : List ℕ) : Type 0 where
-  pub each : (i : ℕ) → i < n → Calls slacks i (getD words i 0)
-  pub long : length words ≡ 32
+-- what is left is eligible, and by call it is what it is by lot
+pub record Words (eligible lefts holders : List ℕ) : Type 0 where
+  pub among : (i j : ℕ) → i < 32 → j < 32 → isLeft lefts i j ≡ true → isLeft eligible i j ≡ true
+  pub held : (i j : ℕ) → i < 32 → j < 32 → bit (getD holders j 0) i ≡ isLeft lefts i j
+  pub lefts-long : length lefts ≡ 32
+  pub holders-long : length holders ≡ 32

@@ -6,10 +6,10 @@ use Prim.Native.Nat.{ℕ, _+_, _*_}
 use lib.ListN.{length, take, drop}
 use Rattle.transport.specs.Greedy.{Pair}
 use Rattle.specification.specs.OrderFile.{orderFile}
-use Rattle.finder.specs.declared.inner.Search.{Search}
-use Rattle.finder.specs.declared.inner.Search.the-variants.{Found, Nothing}
+use Rattle.slacks.specs.declared.Search.{Search}
+use Rattle.slacks.specs.declared.Search.the-variants.{Found, Nothing}
 
--- the first bytes of the source stand in the buffer from a place on, and the rest of it is as it was
+-- the first bytes of the source stand in the buffer from a byte on, and the rest of it is as it was
 pub record Copied (src : List ℕ) (len : ℕ) (before : List ℕ) (start : ℕ) (after : List ℕ) : Type 0 where
   pub front : take (start + len) after ≡ take start before ++ take len src
   pub behind : drop (start + len) after ≡ drop (start + len) before

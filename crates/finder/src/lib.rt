@@ -1,14 +1,16 @@
 // Finding an order (document 01, "Finding an order"): the free pair of lowest lot, then lowest call, is taken until none remains or none is
-// free. A pair is free where, against each lot that still has its call, its lot's gap is the least of those that remain.
+// free. There are two searches: by corners, where all pairs are eligible and the costs are Monge by some ranks of lots and calls, and else by least
+// gaps. Both take the same pairs.
+mod filling;
 pub mod inner;
+mod lefts;
+mod ranked;
 mod rows;
 mod search;
-mod slacks;
 mod waiting;
-mod words;
 mod writing;
 
-use inner::Search;
+use slacks::Search;
 use specification::Counts;
 use specification::Found;
 use specification::Refusal;
@@ -25,14 +27,11 @@ pub fn find_order(book: &[u8], order: &mut [u8]) -> Found
     let Counts::Are(n, m) = counts else {
         return Found::Refused(files::refusal_of(counts));
     };
-    let offsets = book::inner::offsets(book, n);
-    let mut slacks: [u32; 1024] = [0; 1024];
-    let total = slacks::fill_slacks(book, &offsets, n, m, &mut slacks);
-    let length = 7 + 2 * total;
+    let length = 7 + 2 * book::inner::pair_count(book, n);
     if order.len() < length {
         return Found::Refused(Refusal::BufferTooShort);
     }
-    let found = search::find_by_slacks(&slacks, n, m, total, order);
+    let found = inner::find_by(book, n, m, order);
     let Search::Found(_) = found else {
         return Found::Refused(Refusal::NoOrder);
     };

@@ -1,50 +1,49 @@
 // The search: the next pair is taken until none remains or none is free.
-use super::inner::Search;
-use super::rows::fill_rows;
-use super::rows::row_from;
+use super::lefts::fill_words;
+use super::ranked::ByRanks;
+use super::ranked::find_by_ranks;
+use super::waiting::Next;
 use super::waiting::ask_again;
 use super::waiting::first_pair;
-use super::words::above;
-use super::words::fill_lefts;
-use super::words::without;
-use super::writing::put;
 use super::writing::write_order;
+use slacks::Search;
+use slacks::put;
 use specification::Call;
 use specification::Lot;
+use words::without;
 ghost use mathlib.Core.Path.{_≡_};
-ghost use Prim.Native.Nat.{_+_, _*_, _/_, _%_, _≤_, _<_};
-ghost use lib.ListN.{length, set};
+ghost use Prim.Native.Nat.{_+_, _*_, _≤_, _<_};
+ghost use lib.ListN.{length};
 ghost use Rattle.transport.specs.Finder.{size, find};
-ghost use Rattle.finder.specs.Slacks.{bySlacks, Capped, Slacks};
-ghost use Rattle.finder.specs.Work.{Holding, Finds};
+ghost use Rattle.slacks.specs.Slacks.{bySlacks, Slacks};
+ghost use Rattle.finder.specs.Waiting.{Taking, Taken};
+ghost use Rattle.slacks.specs.Found.{Finds};
 ghost use Rattle.finder.specs.Writing.{Orders};
 
-// The pair at place x is taken: its slack goes, the rows of its lot are worked out, and the pairs that may be free then are to be tried.
-// By a place of 16 bits the compiler does not carry the addresses of a lot's rows through the search for the next pair.
+// The mark of a pair that is taken: it names no lot, so that the pair is not asked for again.
+const TAKEN: u8 = 33;
+
+// The pair is taken: it leaves the words of its lot and its call, and the pairs that may be free then are to be tried.
 fn take_pair(
-    slacks: &[u32; 1024],
-    n: usize,
-    x: u16,
-    live: &mut [u32; 1024],
-    tails: &mut [u32; 33792],
-    least: &mut [u32; 1024],
-    waits: &[u8; 1024],
-    asks: &mut [u32; 32],
+    lot: Lot,
+    call: Call,
     lefts: &mut [u32; 32],
+    holders: &mut [u32; 32],
+    waits: &mut [u8; 1024],
+    asks: &mut [u32; 32],
 )
-    requires { ⌜ (n ≤ 32) × Capped (now slacks) × (x < 1024) × (x / 32 < n) ⌝ }
-    requires { ⌜ Holding (now slacks) n (now live) (now tails) (now least) (now waits) (now asks) (now lefts) ⌝ }
-    ensures { λ r. ⌜ now (live .exit) ≡ set (now (live .entry)) (32 * (x % 32) + x / 32) 0 ⌝ }
-    ensures { λ r. ⌜ Holding (now (slacks .entry)) n (now (live .exit)) (now (tails .exit)) (now (least .exit)) (now (waits .entry))
-        (now (asks .exit)) (now (lefts .exit)) ⌝ }
+    requires { ⌜ Taking (lot .0) (call .0) (now lefts) (now holders) (now waits) (now asks) ⌝ }
+    ensures { λ r. ⌜ Taken (lot .0) (call .0) (now (lefts .entry)) (now (lefts .exit)) (now (holders .entry)) (now (holders .exit))
+        (now (waits .entry)) (now (waits .exit)) (now (asks .entry)) (now (asks .exit)) ⌝ }
 {
-    let i = (x / 32) as usize;
-    let j = (x % 32) as usize;
-    live[32 * j + i] = 0;
+    let i = lot.0;
+    let j = call.0;
     let left = without(lefts[i], j);
     lefts[i] = left;
-    row_from(slacks, n, Lot(i), above(left, j), left, tails, least);
-    ask_again(waits, n, Lot(i), Call(j), left, asks);
+    holders[j] = without(holders[j], i);
+    waits[32 * j + i] = TAKEN;
+    ask_again(waits, Lot(i), Call(j), asks);
+    asks[i] = left;
 }
 
 // An order of the eligible pairs: the count of its pairs, with two bytes a pair, lot and call, at the start of the array; or nothing where
@@ -53,35 +52,63 @@ fn find_pairs(slacks: &[u32; 1024], n: usize, m: usize, total: usize, pairs: &mu
     requires { ⌜ Slacks (now slacks) n m × (total ≡ size (bySlacks (now slacks) n m)) × (2048 ≤ length (now pairs)) ⌝ }
     ensures { λ r. ⌜ Finds (find (bySlacks (now (slacks .entry)) n m)) r (now (pairs .exit)) ⌝ }
 {
-    let mut least: [u32; 1024] = [0; 1024];
-    let mut tails: [u32; 33792] = [2000001; 33792];
-    let mut waits: [u8; 1024] = [0; 1024];
+    // By lot, 32 at most: the calls left to it.
     let mut lefts: [u32; 32] = [0; 32];
-    let mut live = *slacks;
-    fill_lefts(slacks, n, m, &mut lefts);
+    // By call, 32 at most: the lots that still have it.
+    let mut holders: [u32; 32] = [0; 32];
+    fill_words(slacks, n, m, &mut lefts, &mut holders);
+    // By lot: the calls that it is eligible for.
+    let eligible = lefts;
+    // By lot: the calls that it is to be asked for.
     let mut asks = lefts;
-    fill_rows(slacks, n, &lefts, &mut tails, &mut least);
+    // By lot, a row of 32 lots: its least gaps over them.
+    let mut least: [u32; 1024] = [0; 1024];
+    // By lot: the calls that its least gaps were worked out for, none at first.
+    let mut worked: [u32; 32] = [0; 32];
+    // By call, a row of 32 lots: a mark for each pair, 0 until it is hindered, then one more than the lot that hinders it, then `TAKEN`.
+    let mut waits: [u8; 1024] = [0; 1024];
     let mut count = 0;
     while count < total {
-        let x = first_pair(&live, &least, n, &mut waits, &mut asks);
-        if x == 1024 {
-            return Search::Nothing;
-        }
-        take_pair(
+        let next = first_pair(
             slacks,
             n,
-            x as u16,
-            &mut live,
-            &mut tails,
+            &eligible,
+            &lefts,
+            &holders,
             &mut least,
-            &waits,
+            &mut worked,
+            &mut waits,
             &mut asks,
-            &mut lefts,
         );
-        put(pairs, count, Lot(x / 32), Call(x % 32));
+        let Next::Pair(lot, call) = next else {
+            return Search::Nothing;
+        };
+        let i = lot.0;
+        let j = call.0;
+        take_pair(
+            Lot(i),
+            Call(j),
+            &mut lefts,
+            &mut holders,
+            &mut waits,
+            &mut asks,
+        );
+        put(pairs, count, Lot(i), Call(j));
         count += 1;
     }
     Search::Found(count)
+}
+
+// The same, by corners where that search applies, and else by least gaps.
+fn find_any(slacks: &[u32; 1024], n: usize, m: usize, total: usize, pairs: &mut [u8]) -> Search
+    requires { ⌜ Slacks (now slacks) n m × (total ≡ size (bySlacks (now slacks) n m)) × (2048 ≤ length (now pairs)) ⌝ }
+    ensures { λ r. ⌜ Finds (find (bySlacks (now (slacks .entry)) n m)) r (now (pairs .exit)) ⌝ }
+{
+    let by_ranks = find_by_ranks(slacks, n, m, total, pairs);
+    if let ByRanks::Searched(found) = by_ranks {
+        return found;
+    }
+    find_pairs(slacks, n, m, total, pairs)
 }
 
 // The order file of the order that is found; where there is none, nothing, and the buffer as it was.
@@ -95,8 +122,9 @@ pub fn find_by_slacks(
     requires { ⌜ Slacks (now slacks) n m × (total ≡ size (bySlacks (now slacks) n m)) × (7 + 2 * total ≤ length (now buffer)) ⌝ }
     ensures { λ r. ⌜ Orders (find (bySlacks (now (slacks .entry)) n m)) r (now (buffer .entry)) (now (buffer .exit)) ⌝ }
 {
+    // By place in the order, two bytes for each of at most 1,024 pairs.
     let mut pairs: [u8; 2048] = [0; 2048];
-    let found = find_pairs(slacks, n, m, total, &mut pairs);
+    let found = find_any(slacks, n, m, total, &mut pairs);
     let Search::Found(count) = found else {
         return Search::Nothing;
     };

@@ -1,107 +1,147 @@
-// The pair to take next. For each pair the lowest lot that may still hinder it is kept, and for each lot the word of the calls to ask it
-// for: its pairs with all others are hindered.
-use super::words::including_if;
-use super::words::lowest;
-use super::words::without;
+// The pair to take next. For each pair it is kept which lot hindered it, and for each lot the word of the calls to ask it for: its pairs with
+// all others that are left are hindered.
+use super::rows::freshen;
+use slacks::SLACK_MOST;
 use specification::Call;
 use specification::Lot;
+use words::below;
+use words::including_if;
+use words::lowest;
+use words::minus;
+use words::without;
 ghost use mathlib.Core.Path.{_≡_};
-ghost use mathlib.Core.Logic.{_⊎_};
-ghost use mathlib.Core.Bool.{not, _&&_};
-ghost use Prim.Native.Nat.{_+_, _≤_, _<_};
-ghost use lib.Dec.{eqb, ltb};
-ghost use lib.ListN.{length, getD};
-ghost use Rattle.finder.specs.Slacks.{Capped};
-ghost use Rattle.finder.specs.Waiting.{First, FirstCall, Lowest, Waits, Marks, Tried, Asked};
+ghost use Prim.Native.Nat.{_+_, _-_, _≤_, _<_};
+ghost use lib.Dec.{eqb};
+ghost use lib.ListN.{length};
+ghost use Rattle.book.specs.Table.{entry};
+ghost use Rattle.finder.specs.Words.{Included};
+ghost use Rattle.finder.specs.Rows.{Rows};
+ghost use Rattle.finder.specs.Waiting.{Trying, Asking, Told, Waits, Tried, FirstCall, NextIs};
+ghost use Rattle.finder.specs.Work.{Holding};
 
-// The greater of two numbers.
-fn greater(a: u32, b: u32) -> u32
-    ensures { λ r. ⌜ (a ≤ r) × (b ≤ r) × ((r ≡ a) ⊎ (r ≡ b)) ⌝ }
-{
-    if a < b { b } else { a }
+// The next pair, or that there is none.
+pub enum Next {
+    Pair(Lot, Call),
+    Nothing,
 }
 
-// Whether the gap of a cost over a lot by the slack of its pair, which remains, is above a least gap; false for 0, of a pair that does not
-// remain. One comparison serves both.
-fn exceeds(least: u32, cost: u32, slack: u32) -> bool
-    requires { ⌜ (cost ≤ 1000001) × (slack ≤ 1000001) ⌝ }
-    ensures { λ r. ⌜ r ≡ (not (eqb slack 0) && ltb least (cost + slack)) ⌝ }
-{
-    greater(least, cost) < cost + slack
-}
-
-// The lowest lot from `start` on that hinders the pair, or n.
-fn hinderer(
-    live: &[u32; 1024],
-    least: &[u32; 1024],
-    n: usize,
+// Whether a lot that still has the call hinders the pair: it is not eligible for a call left to the pair's lot, or the gap over it is not the
+// least of those at these calls. Where the gap is no more than a least gap that stands from before, it is the least.
+fn hinders(
+    slacks: &[u32; 1024],
+    eligible: &[u32; 32],
+    lefts: &[u32; 32],
     lot: Lot,
     call: Call,
-    start: usize,
-) -> usize
-    requires { ⌜ (n ≤ 32) × (lot .0 < n) × (call .0 < 32) × (start ≤ n) × Capped (now live) ⌝ }
-    ensures { λ r. ⌜ Lowest (now (live .entry)) (now (least .entry)) n (lot .0) (call .0) start r ⌝ }
-{
-    let i = lot.0;
-    let j = call.0;
-    let cost = 1000001 - live[32 * j + i];
-    let mut k = start;
-    while k < n {
-        if exceeds(least[32 * i + k], cost, live[32 * j + k]) {
-            return k;
-        }
-        k += 1;
-    }
-    k
-}
-
-// A byte in full width.
-fn wide_byte(x: u8) -> usize
-    ensures { λ r. ⌜ r ≡ x ⌝ }
-{
-    x as usize
-}
-
-// Whether the pair can be taken. If it remains, its mark goes up to the lowest lot that hinders it, or n.
-fn try_call(
-    live: &[u32; 1024],
-    least: &[u32; 1024],
-    n: usize,
-    lot: Lot,
-    call: Call,
-    waits: &mut [u8; 1024],
+    other: Lot,
+    least: &mut [u32; 1024],
+    worked: &mut [u32; 32],
 ) -> bool
-    requires { ⌜ (n ≤ 32) × (lot .0 < n) × (call .0 < 32) × Capped (now live) ⌝ }
-    requires { ⌜ Waits (now live) (now least) n (now waits) ⌝ }
-    ensures { λ r. ⌜ Tried (now (live .entry)) (now (least .entry)) n (lot .0) (call .0) r (now (waits .entry)) (now (waits .exit)) ⌝ }
+    requires { ⌜ Asking (now slacks) (now lefts) (now least) (now worked) (lot .0) (call .0) (other .0) ⌝ }
+    ensures { λ r. ⌜ Told (now (slacks .entry)) (now (eligible .entry)) (now (lefts .entry)) (lot .0) (call .0) (other .0) r ⌝ }
+    ensures { λ r. ⌜ Rows (now (slacks .entry)) (now (lefts .entry)) (now (worked .exit)) (now (least .exit)) ⌝ }
 {
     let i = lot.0;
     let j = call.0;
-    if live[32 * j + i] == 0 {
+    let k = other.0;
+    if 0 < minus(lefts[i], eligible[k]) {
+        return true;
+    }
+    let gap = SLACK_MOST - slacks[32 * j + i] + slacks[32 * j + k];
+    if gap <= least[32 * i + k] {
         return false;
     }
-    let k = hinderer(live, least, n, lot, call, wide_byte(waits[32 * j + i]));
-    waits[32 * j + i] = k as u8;
-    k == n
+    freshen(slacks, lefts, Lot(i), least, worked);
+    least[32 * i + k] < gap
+}
+
+// The lot that a mark names, from which on a pair is tried, or 0.
+fn named(mark: u8) -> usize
+    ensures { λ r. ⌜ r ≡ mark - 1 ⌝ }
+{
+    if mark == 0 {
+        return 0;
+    }
+    (mark - 1) as usize
+}
+
+// Whether the pair, which is left, can be taken: the last of its lot, or one that no lot hinders. If not, its mark becomes that of the lowest lot
+// that hinders it.
+fn try_call(
+    slacks: &[u32; 1024],
+    eligible: &[u32; 32],
+    lefts: &[u32; 32],
+    holders: &[u32; 32],
+    lot: Lot,
+    call: Call,
+    least: &mut [u32; 1024],
+    worked: &mut [u32; 32],
+    waits: &mut [u8; 1024],
+) -> bool
+    requires { ⌜ Trying (now slacks) (now eligible) (now lefts) (now holders) (now least) (now worked) (lot .0) (call .0) ⌝ }
+    requires { ⌜ Waits (now slacks) (now eligible) (now lefts) (now waits) ⌝ }
+    ensures { λ r. ⌜ Tried (now (slacks .entry)) (now (eligible .entry)) (now (lefts .entry)) (lot .0) (call .0) r
+        (now (waits .entry)) (now (waits .exit)) ⌝ }
+    ensures { λ r. ⌜ Rows (now (slacks .entry)) (now (lefts .entry)) (now (worked .exit)) (now (least .exit)) ⌝ }
+{
+    let i = lot.0;
+    let j = call.0;
+    if without(lefts[i], j) == 0 {
+        return true;
+    }
+    let passed = below(holders[j], named(waits[32 * j + i]));
+    let mut lots = without(minus(holders[j], passed), i);
+    while 0 < lots {
+        let k = lowest(lots);
+        if hinders(
+            slacks,
+            eligible,
+            lefts,
+            Lot(i),
+            Call(j),
+            Lot(k),
+            least,
+            worked,
+        ) {
+            waits[32 * j + i] = (k + 1) as u8;
+            return false;
+        }
+        lots = without(lots, k);
+    }
+    true
 }
 
 // The lowest call whose pair with lot i can be taken, or 32. Only the calls in its word are tried, and each that is hindered leaves it.
 fn first_call(
-    live: &[u32; 1024],
-    least: &[u32; 1024],
-    n: usize,
+    slacks: &[u32; 1024],
+    eligible: &[u32; 32],
+    lefts: &[u32; 32],
+    holders: &[u32; 32],
     i: usize,
+    least: &mut [u32; 1024],
+    worked: &mut [u32; 32],
     waits: &mut [u8; 1024],
     asks: &mut [u32; 32],
 ) -> usize
-    requires { ⌜ (n ≤ 32) × (i < n) × Capped (now live) ⌝ }
-    requires { ⌜ Marks (now live) (now least) n (now waits) (now asks) ⌝ }
-    ensures { λ r. ⌜ FirstCall (now (live .entry)) (now (least .entry)) n i r ⌝ }
-    ensures { λ r. ⌜ Marks (now (live .entry)) (now (least .entry)) n (now (waits .exit)) (now (asks .exit)) ⌝ }
+    requires { ⌜ i < 32 ⌝ }
+    requires { ⌜ Holding (now slacks) (now eligible) (now lefts) (now holders) (now least) (now worked) (now waits) (now asks) ⌝ }
+    ensures { λ r. ⌜ FirstCall (now (slacks .entry)) (now (eligible .entry)) (now (lefts .entry)) i r ⌝ }
+    ensures { λ r. ⌜ Holding (now (slacks .entry)) (now (eligible .entry)) (now (lefts .entry)) (now (holders .entry))
+        (now (least .exit)) (now (worked .exit)) (now (waits .exit)) (now (asks .exit)) ⌝ }
 {
     while 0 < asks[i] {
         let j = lowest(asks[i]);
-        if try_call(live, least, n, Lot(i), Call(j), waits) {
+        if try_call(
+            slacks,
+            eligible,
+            lefts,
+            holders,
+            Lot(i),
+            Call(j),
+            least,
+            worked,
+            waits,
+        ) {
             return j;
         }
         asks[i] = without(asks[i], j);
@@ -109,51 +149,57 @@ fn first_call(
     32
 }
 
-// The place of the pair to take next, or 1024.
+// The pair to take next: the lowest lot's that has one that can be taken.
 pub fn first_pair(
-    live: &[u32; 1024],
-    least: &[u32; 1024],
+    slacks: &[u32; 1024],
     n: usize,
+    eligible: &[u32; 32],
+    lefts: &[u32; 32],
+    holders: &[u32; 32],
+    least: &mut [u32; 1024],
+    worked: &mut [u32; 32],
     waits: &mut [u8; 1024],
     asks: &mut [u32; 32],
-) -> usize
-    requires { ⌜ (n ≤ 32) × Capped (now live) ⌝ }
-    requires { ⌜ Marks (now live) (now least) n (now waits) (now asks) ⌝ }
-    ensures { λ r. ⌜ First (now (live .entry)) (now (least .entry)) n r ⌝ }
-    ensures { λ r. ⌜ Marks (now (live .entry)) (now (least .entry)) n (now (waits .exit)) (now (asks .exit)) ⌝ }
+) -> Next
+    requires { ⌜ n ≤ 32 ⌝ }
+    requires { ⌜ Holding (now slacks) (now eligible) (now lefts) (now holders) (now least) (now worked) (now waits) (now asks) ⌝ }
+    ensures { λ r. ⌜ NextIs (now (slacks .entry)) (now (eligible .entry)) (now (lefts .entry)) n r ⌝ }
+    ensures { λ r. ⌜ Holding (now (slacks .entry)) (now (eligible .entry)) (now (lefts .entry)) (now (holders .entry))
+        (now (least .exit)) (now (worked .exit)) (now (waits .exit)) (now (asks .exit)) ⌝ }
 {
     let mut i = 0;
     while i < n {
-        let j = first_call(live, least, n, i, waits, asks);
+        let j = first_call(
+            slacks,
+            eligible,
+            lefts,
+            holders,
+            i,
+            least,
+            worked,
+            waits,
+            asks,
+        );
         if j < 32 {
-            return 32 * i + j;
+            return Next::Pair(Lot(i), Call(j));
         }
         i += 1;
     }
-    1024
+    Next::Nothing
 }
 
-// The calls to ask for, once the pair is taken: its lot for all that are left to it, and each lot whose pair with the call waits for its lot
-// for that call.
-pub fn ask_again(
-    waits: &[u8; 1024],
-    n: usize,
-    lot: Lot,
-    call: Call,
-    left: u32,
-    asks: &mut [u32; 32],
-)
-    requires { ⌜ (n ≤ 32) × (lot .0 < n) × (call .0 < 32) × (length (now asks) ≡ 32) ⌝ }
-    ensures { λ r. ⌜ Asked (now (waits .entry)) n (lot .0) (call .0) (now (asks .entry)) (now (asks .exit)) ⌝ }
-    ensures { λ r. ⌜ getD (now (asks .exit)) (lot .0) 0 ≡ left ⌝ }
+// Each lot whose pair with the call waits for the lot is to be asked for that call.
+pub fn ask_again(waits: &[u8; 1024], lot: Lot, call: Call, asks: &mut [u32; 32])
+    requires { ⌜ (lot .0 < 32) × (call .0 < 32) × (length (now asks) ≡ 32) ⌝ }
+    ensures { λ r. ⌜ Included (λ k. eqb (entry (now (waits .entry)) (call .0) k) (lot .0 + 1)) 32 (call .0)
+        (now (asks .entry)) (now (asks .exit)) ⌝ }
 {
     let i = lot.0;
     let j = call.0;
-    let taken = i as u8;
+    let for_it = (i + 1) as u8;
     let mut k = 0;
-    while k < n {
-        asks[k] = including_if(waits[32 * j + k] == taken, asks[k], j);
+    while k < 32 {
+        asks[k] = including_if(waits[32 * j + k] == for_it, asks[k], j);
         k += 1;
     }
-    asks[i] = left;
 }

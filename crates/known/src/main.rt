@@ -4,7 +4,7 @@ mod show;
 
 use specification::Found;
 
-// At most so many bytes of an order buffer, from its start: the file that the finder wrote.
+// The first `length` bytes of an order buffer, or all where it has fewer: the file that the finder wrote.
 fn file(order: &[u8], length: usize) -> &[u8] {
     if length < order.len() {
         return &order[0..length];

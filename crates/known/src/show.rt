@@ -36,7 +36,7 @@ fn quadruple(i: Lot, j: Call, k: Lot, l: Call) {
 
 fn refusal(r: Refusal) {
     word(b" refused");
-    number(files::number(r));
+    number(files::number(r) as u64);
     match r {
         Refusal::BitOutside(lot) => number(lot.0 as u64),
         Refusal::CostTooHigh(lot, call) => pair(lot, call),

@@ -31,7 +31,7 @@ use Rattle.order.proofs.Placing.{rest-more, rest-none, met-later, lists
 use Rattle.order.proofs.Scanning.{turn-gives, turn-same}
 
 -- all quadruples of the pair p, by the pairs S that stand after it
-abbrev pub quadruples : Problem → Pair → List Pair → Reply (Unit {0})
+abbrev quadruples : Problem → Pair → List Pair → Reply (Unit {0})
 quadruples P p S = inTurn (P .lots) 0 (λ k. inTurn (P .calls) 0 (λ l. cond (bothIn S p k l) (checkQuadruple P p k l) (gives tt)))
 
 module _ (P : Problem) (inside : (i j : ℕ) → T (P .admits i j) → Eligible P i j) (p : Pair) (S : List Pair)

@@ -1,119 +1,169 @@
--- The turn of a pair: call by call its least gaps are lowered. After l calls the least gaps of its call are lowered over the calls below l;
--- after all, over each call of the problem, as `lowered` says.
-use mathlib.Core.Path.{_≡_, _∙_, ap}
+-- The least gaps of a call, lowered over one call after another to those at a lot: over no call yet, and over one more. And what the turn of
+-- a pair then does to the least gaps of the problem: they are those that the array holds over the calls of the words, and 0 over others.
+use mathlib.Core.Path.{_≡_, refl, sym, _∙_, ap, ap₂}
 use mathlib.Core.Logic.{by-cases}
-use mathlib.Core.Bool.{Bool, cond, not, _&&_, _||_, and-true, and-false, or-true, or-false}
+use mathlib.Core.Bool.{Bool, true, false, cond, not, _&&_, _||_, and-true, and-false, or-true, or-false}
 use mathlib.Core.List.{List}
-use Prim.Native.Nat.{ℕ, _+_, _*_, _≤_, _<_, min}
+use Prim.Native.Nat.{ℕ, _+_, _*_, _^_, _≤_, _<_, min}
 use native.Mathlib.Decide.{ℕ-discrete, decLt}
 use native.Mathlib.Omega.{arith}
-use borrow.Author.Tests.{lt-ltb, le-ltb, le-leb, lt-leb, eq-eqb, ne-eqb}
-use lib.Bits.{bitOr, or-add-and, and-le-l, and-le-r}
-use lib.Dec.{ltb, leb, eqb, ltb→lt, lt→ltb, eqb→eq}
+use borrow.Author.Tests.{lt-ltb, le-ltb, le-leb, lt-leb}
+use lib.Bits.{bitAnd, bitOr}
+use lib.Dec.{ltb, leb, eqb}
+use lib.ListN.{length, getD, set}
+use lib.Seq.{getD-set-same, getD-set-other}
 use Rattle.transport.specs.Problem.{Problem}
-use Rattle.transport.specs.Greedy.{Pair, pair, putPair}
-use Rattle.transport.proofs.Laws.Tests.{T-ext, and-says, and-of, eqb-true}
+use Rattle.transport.specs.Greedy.{pair}
+use Rattle.transport.proofs.Laws.Tests.{eqb-true, eqb-false}
 use Rattle.transport.proofs.Finder.Backward.{callGap, lowered}
-use Rattle.specification.specs.Book.{costLimit}
-use Rattle.book.specs.Table.{entry, problemBy}
-use Rattle.order.specs.Places.{tableGap, Shows, Capped}
-use Rattle.order.specs.Answers.{GapLowered}
-use Rattle.order.proofs.Arrays.{shows-set, shows-same, capped-set}
+use Rattle.specification.specs.Book.{costLimit, bit}
+use Rattle.book.specs.Table.{entry, problemBy, Tabled}
+use Rattle.words.proofs.Sets.{bit-none, bit-or, bit-and, bit-single}
+use Rattle.order.specs.Gaps.{tableGap, Capped, GapLowered, Lowered}
+use Rattle.order.specs.Answers.{PairEntered}
+use Rattle.order.proofs.Eligibles.{admitted-in}
+use Rattle.order.proofs.Arrays.{entry-stored, entry-kept, capped-set}
 
--- the table's gap is that of its problem
-gap-is : (book table : List ℕ) (n m i j l : ℕ) → i < n → l < m
-    → tableGap book table i j l ≡ callGap (problemBy book table n m) costLimit j l i
-gap-is book table n m i j l hi hl = by-cases (ℕ-discrete (entry table i l) 0)
-    (λ e. simp (eq-eqb (entry table i l) 0 e, and-false))
-    (λ h. simp (ne-eqb (entry table i l) 0 h, lt-ltb i n hi, lt-ltb l m hl))
-
--- the lesser by a test, and two numbers joined bit by bit: 0 where both are
+-- the lesser by a test, and the test the other way round
 pub lesser-is : (a b : ℕ) → cond (ltb a b) a b ≡ min a b
 lesser-is a b = by-cases (decLt a b)
     (λ h. rw (lt-ltb a b h) (omega arith))
     (λ h. rw (le-ltb a b (omega arith)) (omega arith))
 
-pub either-none : (a b : ℕ) → eqb (bitOr a b) 0 ≡ (eqb a 0 && eqb b 0)
-either-none a b = T-ext (eqb (bitOr a b) 0) (eqb a 0 && eqb b 0)
-    (λ t. let sum = or-add-and a b in
-    let e = eqb→eq (bitOr a b) 0 t in
-    and-of (eqb a 0) (eqb b 0)
-    (rw (eq-eqb a 0 (omega (arith, sum, e, and-le-r a b))) tt)
-    (rw (eq-eqb b 0 (omega (arith, sum, e, and-le-l a b))) tt))
-    (λ t. let (ea, eb) = and-says (eqb a 0) (eqb b 0) t in
-    rw (eq-eqb (bitOr a b) 0 (omega (arith, or-add-and a b, eqb→eq a 0 ea, eqb→eq b 0 eb))) tt)
+not-under : (a b : ℕ) → not (ltb a b) ≡ leb b a
+not-under a b = by-cases (decLt a b)
+    (λ h. rw (lt-ltb a b h, lt-leb b a h))
+    (λ h. rw (le-ltb a b (omega arith), le-leb b a (omega arith)))
 
--- the least gaps once those of the pair's call over the calls below l are lowered
-abbrev pub loweredTo : Problem → (ℕ → ℕ → ℕ) → Pair → ℕ → ℕ → ℕ → ℕ
-loweredTo P gaps p l a b = cond (eqb a (p .call) && ltb b l) (min (gaps a b) (callGap P costLimit a b (p .lot))) (gaps a b)
+-- ---- one call after another
+module _ (gap : ℕ → ℕ) (some : ℕ → Bool) (j : ℕ) (least : List ℕ) where
+  pub lowered-none : Capped least → ((l : ℕ) → l < 32 → some l ≡ false) → Lowered gap some j least 0 least
+  lowered-none capped none = record {
+    capped = capped;
+    lowers = λ l hl. rw (none l hl);
+    others = λ a l ha hl other. refl;
+    says = λ l hl. rw (none l hl) (bit-none l);
+  }
 
--- and once the one over call l is lowered too
-abbrev stepped : Problem → (ℕ → ℕ → ℕ) → Pair → ℕ → ℕ → ℕ → ℕ
-stepped P gaps p l =
-    putPair (loweredTo P gaps p l) (pair (p .call) l) (min (gaps (p .call) l) (callGap P costLimit (p .call) l (p .lot)))
+  -- call l, over which nothing is lowered yet, is one more
+  module _ (hj : j < 32) (l : ℕ) (hl : l < 32) (not-yet : some l ≡ false) (fits : ℕ) (before : List ℕ)
+      (so-far : Lowered gap some j least fits before) (single new r : ℕ) (after : List ℕ) (single-is : single ≡ 2 ^ l) (new-is : new ≡ gap l)
+      (by-code : GapLowered single j l new before r after) (more : ℕ → Bool) (more-is : (k : ℕ) → k < 32 → more k ≡ (some k || eqb k l)) where
+    done : GapLowered (2 ^ l) j l (gap l) before r after
+    done = rw (single-is, new-is) at by-code
 
--- f below l and at l is f below l + 1
-below-and-at : (f g : ℕ → ℕ) (l b : ℕ) → cond (eqb b l) (f l) (cond (ltb b l) (f b) (g b)) ≡ cond (ltb b (l + 1)) (f b) (g b)
-below-and-at f g l b = by-cases (ℕ-discrete b l)
-    (λ (q : b ≡ l). rw (q, eqb-true l, lt-ltb l (l + 1) (omega arith)))
-    (λ q. rw (ne-eqb b l q) (ap (λ (t : Bool). cond t (f b) (g b)) (T-ext (ltb b l) (ltb b (l + 1))
-    (λ t. lt→ltb b (l + 1) (omega (arith, ltb→lt b l t)))
-    (λ t. lt→ltb b l (omega (arith, ltb→lt b (l + 1) t))))))
+    old-is : entry before j l ≡ entry least j l
+    old-is = so-far .lowers l hl ∙ rw not-yet
 
--- whether the pair passes the test at call l, by an array of marks
-abbrev pub passes : Problem → (ℕ → ℕ → ℕ) → List ℕ → Pair → ℕ → Bool
-passes P gaps later p l =
-    not (ltb 0 (entry later (p .lot) l)) || leb (callGap P costLimit (p .call) l (p .lot)) (lowered P costLimit gaps p (p .call) l)
+    more-here : more l ≡ true
+    more-here = more-is l hl ∙ rw (eqb-true l) (or-true (some l))
 
-module _ (P : Problem) (gaps : ℕ → ℕ → ℕ) (p : Pair) where
-  pub lowered-none : (a b : ℕ) → gaps a b ≡ loweredTo P gaps p 0 a b
-  lowered-none a b = rw (le-ltb b 0 (omega arith), and-false (eqb a (p .call)))
+    more-other : (k : ℕ) → k < 32 → (k ≡ l → ⊥) → more k ≡ some k
+    more-other k hk ne = more-is k hk ∙ rw (eqb-false k l ne) (or-false (some k))
 
-  pub lowered-all : (m a b : ℕ) → b < m → loweredTo P gaps p m a b ≡ lowered P costLimit gaps p a b
-  lowered-all m a b h = rw (lt-ltb b m h, and-true (eqb a (p .call)))
+    -- what the answer adds to the word
+    own-bit : (t : Bool) (k : ℕ) → bit (cond t 0 (2 ^ l)) k ≡ (not t && eqb k l)
+    own-bit true k = bit-none k
+    own-bit false k = bit-single l k
 
-  -- at its own turn a call's gap is not lowered yet
-  not-yet : (l : ℕ) → loweredTo P gaps p l (p .call) l ≡ gaps (p .call) l
-  not-yet l = rw (le-ltb l l (omega arith), and-false (eqb (p .call) (p .call)))
+    answer-is : (k : ℕ) → bit r k ≡ (leb (gap l) (entry least j l) && eqb k l)
+    answer-is k = rw (done .says, old-is) (own-bit (ltb (entry least j l) (gap l)) k
+        ∙ ap (λ (t : Bool). t && eqb k l) (not-under (entry least j l) (gap l)))
 
-  lowered-more : (l a b : ℕ) → stepped P gaps p l a b ≡ loweredTo P gaps p (l + 1) a b
-  lowered-more l a b = by-cases (ℕ-discrete a (p .call))
-      (λ (e : a ≡ p .call). rw (e, eqb-true (p .call))
-      (below-and-at (λ o. min (gaps (p .call) o) (callGap P costLimit (p .call) o (p .lot))) (gaps (p .call)) l b))
-      (λ h. rw (ne-eqb a (p .call) h))
+    pub lowered-more : Lowered gap more j least (bitOr fits r) after
+    lowered-more = record { capped = capped; lowers = lowers; others = others; says = says }
+      where
+        capped : Capped after
+        capped = rw (done .lowers) (capped-set (so-far .capped) (32 * j + l) (min (entry before j l) (gap l)) (omega arith)
+            (omega (arith, so-far .capped .low (32 * j + l) (omega arith))))
 
--- the mark of a call at which the gap is not the least
-mark-none : (old new mark : ℕ) → eqb (cond (ltb old new) mark 0) 0 ≡ (not (ltb 0 mark) || leb new (min old new))
-mark-none old new mark = by-cases (decLt old new)
-    (λ h. rw (lt-ltb old new h, lt-leb new (min old new) (omega arith), or-false (not (ltb 0 mark))) (by-cases (ℕ-discrete mark 0)
-    (λ e. rw (eq-eqb mark 0 e, le-ltb 0 mark (omega arith)))
-    (λ ne. rw (ne-eqb mark 0 ne, lt-ltb 0 mark (omega arith)))))
-    (λ h. rw (le-ltb old new (omega arith), le-leb new (min old new) (omega arith), or-true (not (ltb 0 mark))))
+        lowers : (k : ℕ) → k < 32 → entry after j k ≡ cond (more k) (min (entry least j k) (gap k)) (entry least j k)
+        lowers k hk = by-cases (ℕ-discrete k l)
+            (λ (e : k ≡ l). rw (e, more-here, done .lowers, ← old-is)
+            (entry-stored before j l (min (entry before j l) (gap l)) hj hl (so-far .capped .long)))
+            (λ ne. rw (more-other k hk ne, done .lowers)
+            (entry-kept before j l (min (entry before j l) (gap l)) hj hl j k hj hk (λ _ e. ne e) ∙ so-far .lowers k hk))
 
--- one call's part of the turn, among m calls
-module _ (book table later : List ℕ) (n m : ℕ) (few : m ≤ 32) (p : Pair) (lot-in : p .lot < n) (call-in : p .call < m)
-    (gaps : ℕ → ℕ → ℕ) (l : ℕ) (l-in : l < m) (least after : List ℕ) (new r : ℕ)
-    (new-is : new ≡ tableGap book table (p .lot) (p .call) l)
-    (done : GapLowered later (p .lot) (p .call) l new least r after)
-    (shows : Shows m m least (loweredTo (problemBy book table n m) gaps p l)) where
+        others : (a k : ℕ) → a < 32 → k < 32 → (a ≡ j → ⊥) → entry after a k ≡ entry least a k
+        others a k ha hk ne = rw (done .lowers)
+            (entry-kept before j l (min (entry before j l) (gap l)) hj hl a k ha hk (λ e _. ne e) ∙ so-far .others a k ha hk ne)
+
+        says : (k : ℕ) → k < 32 → bit (bitOr fits r) k ≡ (more k && leb (gap k) (entry least j k))
+        says k hk = bit-or fits r k ∙ ap₂ _||_ (so-far .says k hk) (answer-is k) ∙ by-cases (ℕ-discrete k l)
+            (λ (e : k ≡ l). rw (e, not-yet, more-here, eqb-true l) (and-true (leb (gap l) (entry least j l))))
+            (λ ne. rw (more-other k hk ne, eqb-false k l ne, and-false (leb (gap l) (entry least j l)))
+            (or-false (some k && leb (gap k) (entry least j k))))
+
+  -- which calls they are is what counts
+  pub lowered-same : (other : ℕ → Bool) → ((l : ℕ) → l < 32 → some l ≡ other l) → (r : ℕ) (after : List ℕ)
+      → Lowered gap some j least r after → Lowered gap other j least r after
+  lowered-same other same r after done = record {
+    capped = done .capped;
+    lowers = λ l hl. rw (← same l hl) (done .lowers l hl);
+    others = done .others;
+    says = λ l hl. rw (← same l hl) (done .says l hl);
+  }
+
+-- ---- the turn of a pair
+-- the least gaps are those that the array holds over the calls of the words, and 0 over others
+pub record Keeps (m : ℕ) (common least : List ℕ) (gaps : ℕ → ℕ → ℕ) : Type 0 where
+  pub at : (j l : ℕ) → j < m → l < m → gaps j l ≡ cond (bit (getD common j 0) l) (entry least j l) 0
+
+module _ (book table : List ℕ) (n m : ℕ) (few : m ≤ 32) (few-lots : n ≤ 32) (tabled : Tabled book table) (i j : ℕ)
+    (lot-in : i < n) (call-in : j < m) (gaps : ℕ → ℕ → ℕ) (common least after : List ℕ) (long : length common ≡ 32) (row r : ℕ)
+    (row-is : (l : ℕ) → l < m → bit row l ≡ problemBy book table n m .admits i l)
+    (entered : PairEntered book table m i j (bitAnd (getD common j 0) row) least r after) (keeps : Keeps m common least gaps) where
   abbrev P : Problem
   P = problemBy book table n m
 
-  old-is : entry least (p .call) l ≡ gaps (p .call) l
-  old-is = shows .at (p .call) l call-in l-in ∙ not-yet P gaps p l
+  abbrev shared : ℕ
+  shared = bitAnd (getD common j 0) row
 
-  gap-here : new ≡ callGap P costLimit (p .call) l (p .lot)
-  gap-here = new-is ∙ gap-is book table n m (p .lot) (p .call) l lot-in l-in
+  shared-is : (l : ℕ) → l < m → bit shared l ≡ (bit (getD common j 0) l && P .admits i l)
+  shared-is l hl = bit-and (getD common j 0) row l ∙ ap (λ (t : Bool). bit (getD common j 0) l && t) (row-is l hl)
 
-  pub call-shows : Shows m m after (loweredTo P gaps p (l + 1))
-  call-shows = rw (done .lowers, old-is, gap-here)
-      (shows-same (shows-set few few shows (pair (p .call) l) _ call-in l-in) (λ a b ha hb. lowered-more P gaps p l a b))
+  -- the gaps of call j before the turn: by the array over the calls of its word, and 0 over others
+  old-in : (l : ℕ) → l < m → bit (getD common j 0) l ≡ true → gaps j l ≡ entry least j l
+  old-in l hl e = keeps .at j l call-in hl ∙ rw e
 
-  pub call-says : eqb r 0 ≡ passes P gaps later p l
-  call-says = rw (done .says, old-is, eqb-true (p .call), ← gap-here) (mark-none (gaps (p .call) l) new (entry later (p .lot) l))
+  old-out : (l : ℕ) → l < m → bit (getD common j 0) l ≡ false → gaps j l ≡ 0
+  old-out l hl e = keeps .at j l call-in hl ∙ rw e
 
--- no entry is above the highest gap
-pub call-capped : (later : List ℕ) (i j l new : ℕ) (least : List ℕ) (r : ℕ) (after : List ℕ) → GapLowered later i j l new least r after
-    → Capped least → j < 32 → l < 32 → Capped after
-call-capped later i j l new least r after done capped hj hl = rw (done .lowers)
-    (capped-set capped (32 * j + l) (min (entry least j l) new) (omega arith) (omega (arith, capped .low (32 * j + l) (omega arith))))
+  -- the gap at lot i over a call that it is eligible for is above 0, and over another 0
+  gap-out : (l : ℕ) → P .admits i l ≡ false → callGap P costLimit j l i ≡ 0
+  gap-out l e = rw e
+
+  gap-some : (l : ℕ) → l < m → P .admits i l ≡ true → 0 < tableGap book table i j l
+  gap-some l hl e = omega (arith, tabled .cheap (32 * i + l) (omega arith) (admitted-in table n m i l e .2))
+
+  pub keeps-turn : Keeps m (set common j shared) after (lowered P costLimit gaps (pair i j))
+  keeps-turn = record { at = at }
+    where
+      here : (l : ℕ) → l < m → (s t : Bool) → bit (getD common j 0) l ≡ s → P .admits i l ≡ t
+          → min (gaps j l) (callGap P costLimit j l i) ≡ cond (bit shared l) (entry after j l) 0
+      here l hl true true s t =
+          rw (shared-is l hl, s, t, old-in l hl s) (sym (entered .lowers l hl (shared-is l hl ∙ rw (s, t))))
+      here l hl true false s t = rw (shared-is l hl, s, t) (omega (arith, gap-out l t))
+      here l hl false t s e = rw (shared-is l hl, s) (omega (arith, old-out l hl s))
+
+      at : (a l : ℕ) → a < m → l < m → lowered P costLimit gaps (pair i j) a l ≡ cond (bit (getD (set common j shared) a 0) l) (entry after a l) 0
+      at a l ha hl = by-cases (ℕ-discrete a j)
+          (λ (e : a ≡ j). rw (e, eqb-true j, getD-set-same common j shared 0 (omega (arith, long))) (here l hl _ _ refl refl))
+          (λ ne. rw (eqb-false a j ne, getD-set-other common j a shared 0 ne, entered .others a l ha hl ne) (keeps .at a l ha hl))
+
+  -- the answer has the calls that lot i is eligible for over which the pair's gap is the least
+  pub fits-is : (l : ℕ) → l < m → P .admits i l ≡ true → bit r l ≡ leb (callGap P costLimit j l i) (lowered P costLimit gaps (pair i j) j l)
+  fits-is l hl e = rw (entered .says l hl, shared-is l hl, e, and-true (bit (getD common j 0) l), eqb-true j)
+      (go (bit (getD common j 0) l) refl)
+    where
+      gap : ℕ
+      gap = tableGap book table i j l
+
+      go : (b : Bool) → bit (getD common j 0) l ≡ b → (bit (getD common j 0) l && leb gap (entry least j l)) ≡ leb gap (min (gaps j l) gap)
+      go true b = rw (b, old-in l hl b) (at-most (entry least j l))
+        where
+          at-most : (x : ℕ) → leb gap x ≡ leb gap (min x gap)
+          at-most x = by-cases (decLt x gap)
+              (λ h. rw (lt-leb gap x h, lt-leb gap (min x gap) (omega arith)))
+              (λ h. rw (le-leb gap x (omega arith), le-leb gap (min x gap) (omega arith)))
+      go false b = rw (b, old-out l hl b) (sym (lt-leb gap (min 0 gap) (omega (arith, gap-some l hl e))))

@@ -65,7 +65,7 @@ module _ (book table : List ℕ) (n m : ℕ) (S : List Pair) (passed : checkPair
   order-of-pairs h = order-if-all-stand P S lists (complete-exactly P S .0 (rw (none-missing h) tt))
 
 -- each pair of such an order is eligible, so it can be walked and scanned
-module _ (book table places order : List ℕ) (count n m : ℕ) (s : CanSettle book table places order count n m) where
+module _ (book table starts places order : List ℕ) (count n m : ℕ) (s : CanSettle book table starts places order count n m) where
   eligible-at : (p : ℕ) → p < count → Eligible (problemBy book table n m) (orderPair order p .lot) (orderPair order p .call)
   eligible-at p h =
       let i = orderPair order p .lot in
@@ -74,10 +74,11 @@ module _ (book table places order : List ℕ) (count n m : ℕ) (s : CanSettle b
       (subst T (sym (met-later order count count 0 i j (omega arith)))
       (lt→ltb 0 (metAt order count i j) (omega (arith, met-late order count count i j p h (same-of-eq i j (orderPair order p) refl refl))))))
 
-  pub walkable : Walkable book table order count m
+  pub walkable : Walkable book table starts order count m
   walkable = record {
     tabled = s .tabled;
     packed = s .packed;
+    worded = s .worded;
     few-calls = s .sized .few-calls;
     order-long = s .sized .order-long;
     lot-in = λ p h. omega (arith, eligible-at p h .0, s .sized .few-lots);

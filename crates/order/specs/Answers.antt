@@ -3,20 +3,20 @@ use mathlib.Core.List.{List, [], _∷_}
 use mathlib.Core.Path.{_≡_}
 use mathlib.Core.Bool.{Bool, true, false, cond, not, _&&_}
 use Prim.Native.Nat.{ℕ, _+_, _*_, _≤_, _<_, min}
-use lib.Dec.{ltb, eqb}
+use lib.Dec.{ltb, leb}
 use lib.ListN.{set}
 use Rattle.transport.specs.Greedy.{Pair, pair}
 use Rattle.transport.specs.Problem.{Problem}
 use Rattle.transport.specs.Order.{OrderOf}
 use Rattle.transport.specs.Finder.{free}
 use Rattle.transport.proofs.Finder.Standing.{standing}
-use Rattle.transport.proofs.Finder.Backward.{lowered, leastFor}
-use Rattle.specification.specs.Book.{costLimit}
+use Rattle.specification.specs.Book.{bit}
 use Rattle.specification.specs.Reply.{Reply, gives, refuses, refuseIf, _>>=_}
 use Rattle.specification.specs.Check.{checkQuadruple, checkPairs, complete, checkMonge}
 use Rattle.files.specs.Files.{statedStep}
 use Rattle.book.specs.Table.{entry, admitsBy, problemBy}
-use Rattle.order.specs.Places.{orderPair, rest, metAt, Shows, Capped}
+use Rattle.order.specs.Places.{orderPair, rest, metAt, Shows}
+use Rattle.order.specs.Gaps.{tableGap, Capped}
 use Rattle.order.specs.declared.scan.Quadruple.{Quadruple}
 use Rattle.order.specs.declared.scan.Quadruple.the-variants.{Holds, NotEligible, TooHigh}
 use Rattle.files.specs.declared.Step.{Step}
@@ -45,20 +45,13 @@ pub record PlacesFilled (table order : List ℕ) (count n m : ℕ) (r : Step) (p
   pub says : (book : List ℕ) → statedStep r ≡ checkPairs (problemBy book table n m) [] 0 (rest order count 0)
   pub shows : r ≡ Passes → Shows 32 32 places (metAt order count)
 
--- the least gap of call j over call l is lowered to a new one; the answer is the mark of (i, l) where it was lower already, and else 0
-pub record GapLowered (later : List ℕ) (i j l new : ℕ) (least : List ℕ) (r : ℕ) (after : List ℕ) : Type 0 where
-  pub lowers : after ≡ set least (32 * j + l) (min (entry least j l) new)
-  pub says : r ≡ cond (ltb (entry least j l) new) (entry later i l) 0
-
--- the whole turn of the pair (i, j), for every count of lots above i and all least gaps that the array shows: they are lowered to the
--- pair's, and the answer is 0 exactly where the pair's are the least at each call l with a mark at (i, l)
-pub record PairEntered (book table later : List ℕ) (m i j : ℕ) (least : List ℕ) (r : ℕ) (after : List ℕ) : Type 0 where
+-- the turn of the pair (i, j), with a word of calls that lot i is eligible for: the least gaps of call j over these calls are lowered to
+-- the pair's, those of other calls stay, and the answer has the calls of the word over which the pair's gap is the least
+pub record PairEntered (book table : List ℕ) (m i j word : ℕ) (least : List ℕ) (r : ℕ) (after : List ℕ) : Type 0 where
   pub capped : Capped after
-  pub shows : (n : ℕ) (gaps : ℕ → ℕ → ℕ) → i < n → Shows m m least gaps
-      → Shows m m after (lowered (problemBy book table n m) costLimit gaps (pair i j))
-  pub says : (n : ℕ) (gaps : ℕ → ℕ → ℕ) → i < n → Shows m m least gaps
-      → eqb r 0 ≡ leastFor (problemBy book table n m) costLimit (λ k l. ltb 0 (entry later k l))
-      (lowered (problemBy book table n m) costLimit gaps (pair i j) j) (pair i j)
+  pub lowers : (l : ℕ) → l < m → bit word l ≡ true → entry after j l ≡ min (entry least j l) (tableGap book table i j l)
+  pub others : (a l : ℕ) → a < m → l < m → (a ≡ j → ⊥) → entry after a l ≡ entry least a l
+  pub says : (l : ℕ) → l < m → bit r l ≡ (bit word l && leb (tableGap book table i j l) (entry least j l))
 
 -- whether the pair at a place of an order is free against the pairs that stand there or later
 abbrev pub freeAt : Problem → List ℕ → ℕ → ℕ → Bool

@@ -1,14 +1,15 @@
 -- What the functions of this crate ask of their arguments.
 use mathlib.Core.Path.{_≡_}
+use mathlib.Core.Bool.{true}
 use mathlib.Core.List.{List}
 use Prim.Native.Nat.{ℕ, _+_, _*_, _≤_, _<_}
 use lib.ListN.{length}
-use Rattle.specification.specs.Bytes.{u32At}
 use Rattle.transport.specs.Order.{OrderOf}
 use Rattle.transport.specs.Finder.{size}
-use Rattle.specification.specs.Book.{costLimit}
-use Rattle.book.specs.Table.{entry, problemBy, Tabled, Packed}
-use Rattle.order.specs.Places.{orderPair, rest, metAt, Shows, Capped}
+use Rattle.specification.specs.Book.{bit}
+use Rattle.book.specs.Table.{entry, problemBy, Tabled, Packed, Worded}
+use Rattle.order.specs.Places.{orderPair, rest, metAt, Shows}
+use Rattle.order.specs.Gaps.{Capped, Singles}
 
 -- a quadruple of the table's lots and calls
 pub record CanTest (book table : List ℕ) (i j k l : ℕ) : Type 0 where
@@ -29,30 +30,23 @@ pub record CanWalk (order : List ℕ) (count n m : ℕ) : Type 0 where
 pub record Started (table : List ℕ) (m i start : ℕ) : Type 0 where
   pub from : 0 < start → (l : ℕ) → l < m → entry table i l ≡ start + 4 * l
 
--- call l in the turn of the pair (i, j): its cost, the place of that of (i, l) or 0, costs within the limit, and the array of least gaps
-pub record CanLower (book : List ℕ) (own at i j l : ℕ) (least : List ℕ) : Type 0 where
-  pub within : at + 4 ≤ length book
-  pub cheap : (at ≡ 0 → ⊥) → u32At book at ≤ costLimit
-  pub own-cheap : own ≤ costLimit
-  pub lot-in : i < 32
-  pub call-in : j < 32
-  pub other-in : l < 32
-  pub capped : Capped least
-
--- the turn of the eligible pair (i, j) among m calls
-pub record CanEnter (book table : List ℕ) (m i j : ℕ) (least : List ℕ) : Type 0 where
+-- the turn of the eligible pair (i, j) among m calls, with a word of calls that lot i is eligible for
+pub record CanEnter (book table singles : List ℕ) (m i j word : ℕ) (least : List ℕ) : Type 0 where
   pub tabled : Tabled book table
   pub packed : Packed table m
   pub few-calls : m ≤ 32
   pub lot-in : i < 32
   pub call-in : j < m
   pub in-table : entry table i j ≡ 0 → ⊥
+  pub has : (l : ℕ) → l < 32 → bit word l ≡ true → entry table i l ≡ 0 → ⊥
+  pub singled : Singles singles
   pub capped : Capped least
 
 -- an order of eligible pairs among m calls
-pub record Walkable (book table order : List ℕ) (count m : ℕ) : Type 0 where
+pub record Walkable (book table starts order : List ℕ) (count m : ℕ) : Type 0 where
   pub tabled : Tabled book table
   pub packed : Packed table m
+  pub worded : Worded book table starts
   pub few-calls : m ≤ 32
   pub order-long : 7 + 2 * count ≤ length order
   pub lot-in : (p : ℕ) → p < count → orderPair order p .lot < 32
@@ -78,16 +72,18 @@ pub record CanScan (book table : List ℕ) (n m place i j : ℕ) : Type 0 where
   pub call-in : j < m
 
 -- an order of the eligible pairs, and the array of their places
-pub record CanSettle (book table places order : List ℕ) (count n m : ℕ) : Type 0 where
+pub record CanSettle (book table starts places order : List ℕ) (count n m : ℕ) : Type 0 where
   pub tabled : Tabled book table
   pub packed : Packed table m
+  pub worded : Worded book table starts
   pub sized : CanWalk order count n m
   pub each-once : OrderOf (problemBy book table n m) (rest order count 0)
   pub shows : Shows 32 32 places (metAt order count)
 
 -- pairs of an order file, and a book that has four bytes for each lot and each eligible pair
-pub record CanCheck (book table order : List ℕ) (count n m : ℕ) : Type 0 where
+pub record CanCheck (book table starts order : List ℕ) (count n m : ℕ) : Type 0 where
   pub tabled : Tabled book table
   pub packed : Packed table m
+  pub worded : Worded book table starts
   pub counted : length book ≡ 7 + 4 * n + 4 * size (problemBy book table n m)
   pub sized : CanWalk order count n m

@@ -29,18 +29,19 @@ fn answered(v: Step, count: usize) -> Checked
 fn settle(
     book: &[u8],
     offsets: &[u16; 1024],
+    starts: &[usize; 32],
     places: &[u16; 1024],
     n: usize,
     m: usize,
     order: &[u8],
     count: usize,
 ) -> Step
-    requires { ⌜ CanSettle (now book) (now offsets) (now places) (now order) count n m ⌝ }
+    requires { ⌜ CanSettle (now book) (now offsets) (now starts) (now places) (now order) count n m ⌝ }
     ensures { λ r.
         ⌜ statedStep r ≡ checkMonge (problemBy (now (book .entry)) (now (offsets .entry)) n m)
         (rest (now (order .entry)) count 0) ⌝ }
 {
-    let lowest = super::walk::walk(book, offsets, m, order, count);
+    let lowest = super::walk::walk(book, offsets, starts, m, order, count);
     if lowest == count {
         return Step::Passes;
     }
@@ -60,12 +61,13 @@ fn settle(
 fn check_pairs(
     book: &[u8],
     offsets: &[u16; 1024],
+    starts: &[usize; 32],
     n: usize,
     m: usize,
     order: &[u8],
     count: usize,
 ) -> Checked
-    requires { ⌜ CanCheck (now book) (now offsets) (now order) count n m ⌝ }
+    requires { ⌜ CanCheck (now book) (now offsets) (now starts) (now order) count n m ⌝ }
     ensures { λ r.
         ⌜ statedChecked r ≡ checkedPairs (problemBy (now (book .entry)) (now (offsets .entry)) n m)
         (pairs count (drop 7 (now (order .entry)))) count ⌝ }
@@ -78,7 +80,10 @@ fn check_pairs(
     if 7 + 4 * n + 4 * count < book.len() {
         return Checked::Refused(Refusal::PairMissing);
     }
-    answered(settle(book, offsets, &places, n, m, order, count), count)
+    answered(
+        settle(book, offsets, starts, &places, n, m, order, count),
+        count,
+    )
 }
 
 // The check of an order: the refusals of the order file's opening and length, then of its pairs.
@@ -98,5 +103,6 @@ pub fn check_by(book: &[u8], offsets: &[u16; 1024], n: usize, m: usize, order: &
     if size < order.len() {
         return Checked::Refused(Refusal::BytesAfter);
     }
-    check_pairs(book, offsets, n, m, order, count)
+    let starts = book::inner::row_starts(book, n);
+    check_pairs(book, offsets, &starts, n, m, order, count)
 }

@@ -10,26 +10,19 @@ ghost use Rattle.order.specs.Places.{orderPair, Shows};
 ghost use Rattle.order.specs.Asked.{CanWalk};
 ghost use Rattle.order.specs.Answers.{Met, PlacesFilled};
 
-// A byte as a number of a wider type.
-fn index(x: u8) -> usize
-    ensures { λ r. ⌜ r ≡ x ⌝ }
-{
-    x as usize
-}
-
 // The lot and the call of the pair at a place of an order file.
 pub fn lot_at(order: &[u8], place: usize) -> Lot
     requires { ⌜ 7 + 2 * place + 2 ≤ length (now order) ⌝ }
     ensures { λ r. ⌜ r .0 ≡ orderPair (now (order .entry)) place .lot ⌝ }
 {
-    Lot(index(order[7 + 2 * place]))
+    Lot(files::wide(order[7 + 2 * place]))
 }
 
 pub fn call_at(order: &[u8], place: usize) -> Call
     requires { ⌜ 7 + 2 * place + 2 ≤ length (now order) ⌝ }
     ensures { λ r. ⌜ r .0 ≡ orderPair (now (order .entry)) place .call ⌝ }
 {
-    Call(index(order[7 + 2 * place + 1]))
+    Call(files::wide(order[7 + 2 * place + 1]))
 }
 
 // One pair of an order, at a place: refused where it is not eligible or was met before, and else its place is noted, one more than it is.

@@ -21,7 +21,7 @@ fn show_quadruple(i: Lot, j: Call, k: Lot, l: Call) {
 
 // A refusal's number, and its values where a check of pairs gives it.
 fn show_refusal(cause: Refusal) {
-    io::print_decimal(1, files::number(cause));
+    io::print_decimal(1, files::number(cause) as u64);
     match cause {
         Refusal::PairNotEligible(place) => show_number(place),
         Refusal::PairMetBefore(place) => show_number(place),
@@ -53,7 +53,7 @@ fn show_first(label: &[u8], book: &[u8], order: &[u8], size: usize) {
     }
 }
 
-// Stores a byte, where the file has its place.
+// Stores a byte where the file is long enough.
 fn put(file: &mut [u8], at: usize, x: u8) {
     if at < file.len() {
         file[at] = x;

@@ -20,7 +20,7 @@ append-byte l at b h = record {
   long = length-set l at b;
 }
 
--- what is kept from r on is kept from a later place on
+-- what is kept from r on is kept from a later byte on
 kept-later : (r more : ℕ) (a b : List ℕ) → drop r a ≡ drop r b → drop (r + more) a ≡ drop (r + more) b
 kept-later r more a b e = sym (drop-drop more r a) ∙ (ap (drop more) e ∙ drop-drop more r b)
 

@@ -1,7 +1,6 @@
--- What the search leaves in its array is what a run asks for. The search goes by the book's table of offsets, whose problem agrees with the
--- book's own: so where it answers nothing the reply is 13, and where it answers a count, the array's front is the file of the finder's
--- order. That file passes the check, and finding and running is the run by it.
-use mathlib.Core.Path.{_≡_, sym, _∙_, ap}
+-- What the search leaves in its array is what a run asks for. Where it answers nothing the reply is 13, and where it answers a count, the
+-- array's front is the file of the finder's order. That file passes the check, and finding and running is the run by it.
+use mathlib.Core.Path.{_≡_, refl, sym, _∙_, ap}
 use mathlib.Core.List.{List}
 use mathlib.Core.Option.{Option, some, none}
 use Prim.Native.Nat.{ℕ, _+_, _*_, _≤_}
@@ -11,7 +10,6 @@ use Rattle.transport.specs.Greedy.{Pair}
 use Rattle.transport.specs.Finder.{find}
 use Rattle.transport.proofs.Orders.Length.{order-length}
 use Rattle.transport.proofs.Finder.Find.{find-is-order}
-use Rattle.transport.proofs.Finder.Same.{find-of-same}
 use Rattle.specification.specs.Reply.{gives, Size}
 use Rattle.specification.specs.Book.{readBook, problemOf}
 use Rattle.specification.specs.OrderFile.{orderFile}
@@ -23,13 +21,9 @@ use Rattle.specification.proofs.Checks.{check-passes}
 use Rattle.specification.proofs.Finds.{found-passes}
 use Rattle.specification.proofs.FindRuns.{find-and-run-is-run}
 use Rattle.specification.proofs.OrderFiles.{count-back, order-file-taken}
-use Rattle.book.specs.Pairs.{offsetTable}
-use Rattle.book.proofs.Readable.{counts-are}
-use Rattle.book.specs.Table.{problemBy}
 use Rattle.finder.specs.Writing.{Orders}
-use Rattle.finder.specs.declared.inner.Search.{Search}
-use Rattle.finder.specs.declared.inner.Search.the-variants.{Found, Nothing}
-use Rattle.finder.proofs.Books.{states-same}
+use Rattle.slacks.specs.declared.Search.{Search}
+use Rattle.slacks.specs.declared.Search.the-variants.{Found, Nothing}
 
 -- the first bytes of the array are the file of the finder's order, which has `count` pairs
 pub record IsFile (book after : List ℕ) (count : ℕ) : Type 0 where
@@ -38,21 +32,17 @@ pub record IsFile (book after : List ℕ) (count : ℕ) : Type 0 where
   pub count-is : count ≡ length order
   pub file-is : take (7 + 2 * count) after ≡ orderFile order
 
--- the book is readable, and the search went by its table
-module _ (book table buffer after : List ℕ) (n m : ℕ) (reads : readBook book ≡ gives (record { lots = n; calls = m }))
-    (is-its : table ≡ offsetTable book) (r : Search) (answer : Orders (find (problemBy book table n m)) r buffer after) where
-  same-order : find (problemBy book table n m) ≡ find (problemOf book)
-  same-order = find-of-same (states-same book table n m (counts-are book (sym reads)) is-its)
-
+-- the search has answered
+module _ (book buffer after : List ℕ) (r : Search) (answer : Orders (find (problemOf book)) r buffer after) where
   pub none-found : r ≡ Nothing → find (problemOf book) ≡ none
-  none-found q = by-answer (find (problemBy book table n m)) (sym same-order) answer
+  none-found q = by-answer (find (problemOf book)) refl answer
     where
       by-answer : (o : Option (List Pair)) → find (problemOf book) ≡ o → Orders o r buffer after → find (problemOf book) ≡ none
       by-answer none f w = f
       by-answer (some S) f w = let z : _≡_ {A = ℕ} 0 1 = cc in absurd (omega arith)
 
   pub file-found : (count : ℕ) → r ≡ Found count → IsFile book after count
-  file-found count q = by-answer (find (problemBy book table n m)) (sym same-order) answer
+  file-found count q = by-answer (find (problemOf book)) refl answer
     where
       by-answer : (o : Option (List Pair)) → find (problemOf book) ≡ o → Orders o r buffer after → IsFile book after count
       by-answer none f w = let z : _≡_ {A = ℕ} 0 1 = cc in absurd (omega arith)

@@ -1,6 +1,6 @@
 -- What is proved of finding and running in one call, and of the printed text, apart from their code.
-pub mod Found
-pub mod Appending
-pub mod Decimals
-pub mod Lines
-pub mod Whole
+pub mod Found  -- what the search leaves is what a run asks for
+pub mod Appending  -- one piece after another
+pub mod Decimals  -- the digits of a number
+pub mod Lines  -- how long a line can be
+pub mod Whole  -- the pieces together are the printed text

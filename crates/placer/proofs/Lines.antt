@@ -1,11 +1,12 @@
--- How long a line can be: 17 bytes for a pair of lot and call below 32 with a 32-bit number of units, 48 for an answer's first line,
--- 29 for a refusal. So the text always fits: 48 + 17 · 1,024 is 17,456.
+-- How long a line can be: that of a pair of lot and call below 32 with a 32-bit number of units, that of an answer's verdict with two
+-- 64-bit numbers, and that of a refusal.
 use mathlib.Core.Path.{_≡_}
 use mathlib.Core.List.{List, [], _∷_}
 use Prim.Native.Nat.{ℕ, _+_, _^_, _≤_, _<_}
 use native.Mathlib.Omega.{arith}
 use lib.ListN.{length, length-append}
 use Rattle.specification.specs.Text.{decimal, line}
+use Rattle.placer.specs.Rendering.{firstMost, pairMost, refusalMost}
 use Rattle.placer.proofs.Decimals.{digits-length}
 
 two-fields : (a b : List ℕ) → length (line a (b ∷ [])) ≡ length a + length b + 2
@@ -17,7 +18,7 @@ unfolding line
 three-fields a b c = simp length-append (omega arith)
 
 pub pair-line-length : (i j units : ℕ) → i < 32 → j < 32 → units < 2 ^ 32
-    → length (line (decimal i) (decimal j ∷ decimal units ∷ [])) ≤ 17
+    → length (line (decimal i) (decimal j ∷ decimal units ∷ [])) ≤ pairMost
 pair-line-length i j units hi hj hu =
     omega (
       arith,
@@ -28,7 +29,7 @@ pair-line-length i j units hi hj hu =
     )
 
 pub first-line-length : (word : List ℕ) (units cost : ℕ) → length word ≤ 5 → units < 2 ^ 64 → cost < 2 ^ 64
-    → length (line word (decimal units ∷ decimal cost ∷ [])) ≤ 48
+    → length (line word (decimal units ∷ decimal cost ∷ [])) ≤ firstMost
 first-line-length word units cost hw hu hc =
     omega (
       arith,
@@ -37,5 +38,5 @@ first-line-length word units cost hw hu hc =
       digits-length 20 19 cost (omega arith),
     )
 
-pub refused-line-length : (word : List ℕ) (k : ℕ) → length word ≤ 7 → k < 2 ^ 64 → length (line word (decimal k ∷ [])) ≤ 29
+pub refused-line-length : (word : List ℕ) (k : ℕ) → length word ≤ 7 → k < 2 ^ 64 → length (line word (decimal k ∷ [])) ≤ refusalMost
 refused-line-length word k hw hk = omega (arith, two-fields word (decimal k), digits-length 20 19 k (omega arith))

@@ -13,13 +13,13 @@ use Rattle.specification.specs.Reply.{Reply, gives, refuses, Size, Outcome, ref
 use Rattle.specification.specs.Book.{bookLots, bookCalls, problemOf}
 use Rattle.specification.specs.Amounts.{readAmounts}
 use Rattle.specification.specs.Find.{foundToRun, findAndRun, findAndRunFlow}
-use Rattle.specification.specs.Text.{line, decimal, verdictWord, refusedWord, textOf, printed}
+use Rattle.specification.specs.Text.{line, decimal, verdictWord, refusedWord, textOf, bookMost, amountsMost, printed}
 use Rattle.specification.proofs.Replies.{not-both}
 use Rattle.specification.proofs.AmountsFiles.{amounts-read}
-use Rattle.placer.specs.Rendering.{AppendedWithin, answerText, CountsFit, Rendered, Prints}
+use Rattle.placer.specs.Rendering.{textMost, AppendedWithin, answerText, CountsFit, Rendered, Prints}
 
 pub rendered : {most r : ℕ} {old new piece : List ℕ} (placed : Placed) (n m : ℕ) (flow : List ℕ) → AppendedWithin most 0 old piece r new
-    → most ≤ 17456 → ((P : Problem) → P .lots ≡ n → P .calls ≡ m → piece ≡ textOf (statedPlaced placed) P flow)
+    → most ≤ textMost → ((P : Problem) → P .lots ≡ n → P .calls ≡ m → piece ≡ textOf (statedPlaced placed) P flow)
     → Rendered placed n m flow old r new
 rendered placed n m flow w short is-text = record {
   fits = omega arith;
@@ -55,7 +55,8 @@ drop-zeros (suc n) (suc k) = let e : suc n - suc k ≡ n - k = omega arith in rw
 
 -- what is rendered of the answer on the two files into bytes that are all 0
 module _ (bookFile amountsFile book amounts flow flow′ : List ℕ) (placed : Placed) (n m r : ℕ) (old new : List ℕ) where
-  pub prints : book ≡ take 4232 bookFile → amounts ≡ take 264 amountsFile → flow ≡ replicate 1024 0 → old ≡ replicate 17456 0
+  pub prints : book ≡ take bookMost bookFile → amounts ≡ take amountsMost amountsFile → flow ≡ replicate 1024 0
+      → old ≡ replicate textMost 0
       → statedPlaced placed ≡ findAndRun book amounts flow → flow′ ≡ findAndRunFlow book amounts flow
       → n ≡ bookLots book → m ≡ bookCalls book → Rendered placed n m flow′ old r new
       → Prints (printed bookFile amountsFile) (record { bytes = new; length = r })
@@ -64,7 +65,7 @@ module _ (bookFile amountsFile book amounts flow flow′ : List ℕ) (placed : P
       let text : take r new ≡ printed bookFile amountsFile =
       w .text (problemOf book) (sym lots) (sym calls)
       ∙ rw (replied, written, empty, book-is, amounts-are) in
-      let long : length new ≡ 17456 = w .long ∙ ap length zeros ∙ length-replicate {A = ℕ} 17456 0 in
+      let long : length new ≡ textMost = w .long ∙ ap length zeros ∙ length-replicate {A = ℕ} textMost 0 in
       let front : r ≡ length (take r new) = sym (length-take-le r new (omega (arith, w .fits))) in
       let ends : r ≡ length (printed bookFile amountsFile) = front ∙ ap length text in
       record {
@@ -73,5 +74,5 @@ module _ (bookFile amountsFile book amounts flow flow′ : List ℕ) (placed : P
         front = front;
         bytes-are = sym (take-append-drop r new) ∙ ap (λ (front : List ℕ). front ++ drop r new) text
             ∙ ap (λ (rest : List ℕ). printed bookFile amountsFile ++ rest)
-            (w .kept ∙ ap (drop r) zeros ∙ drop-zeros 17456 r ∙ ap (λ (k : ℕ). replicate (17456 - k) 0) ends);
+            (w .kept ∙ ap (drop r) zeros ∙ drop-zeros textMost r ∙ ap (λ (k : ℕ). replicate (textMost - k) 0) ends);
       }

@@ -12,6 +12,23 @@ use Rattle.specification.specs.Reply.{gives, Outcome, statedPlaced}
 use Rattle.specification.specs.Text.{decimal, line, pairLines, textOf}
 use Rattle.placer.specs.declared.Printed.{Printed}
 
+-- how many bytes each piece has at most: the first line of an answer, the line of a pair, the lines of 1,024 pairs, the line of a refusal,
+-- and the whole text
+abbrev pub firstMost : ℕ
+firstMost = 48
+
+abbrev pub pairMost : ℕ
+pairMost = 17
+
+abbrev pub pairsMost : ℕ
+pairsMost = pairMost * 1024
+
+abbrev pub refusalMost : ℕ
+refusalMost = 29
+
+abbrev pub textMost : ℕ
+textMost = firstMost + pairsMost
+
 -- the text of length `at` in `old` is followed in `new` by the piece, up to r; what stands after that is kept
 pub record Appended (at : ℕ) (old piece : List ℕ) (r : ℕ) (new : List ℕ) : Type 0 where
   pub ends : r ≡ at + length piece
@@ -23,7 +40,7 @@ pub record Appended (at : ℕ) (old piece : List ℕ) (r : ℕ) (new : List ℕ)
 pub record Room (out : List ℕ) (at : ℕ) (piece : List ℕ) : Type 0 where
   pub fits : at + length piece ≤ length out
 
--- appended, in at most so many bytes
+-- appended, in at most `most` bytes
 pub record AppendedWithin (most at : ℕ) (old piece : List ℕ) (r : ℕ) (new : List ℕ) : Type 0 where
   pub appended : Appended at old piece r new
   pub within : r ≤ at + most
@@ -42,7 +59,7 @@ CountsFit placed n m = (o : Outcome) → statedPlaced placed ≡ gives o → (n 
 
 -- the first r bytes are document 01's text of the answer, for every problem of n lots and m calls; what stands after them is kept
 pub record Rendered (placed : Placed) (n m : ℕ) (flow old : List ℕ) (r : ℕ) (new : List ℕ) : Type 0 where
-  pub fits : r ≤ 17456
+  pub fits : r ≤ textMost
   pub text : (P : Problem) → P .lots ≡ n → P .calls ≡ m → take r new ≡ textOf (statedPlaced placed) P flow
   pub kept : drop r new ≡ drop r old
   pub long : length new ≡ length old
@@ -50,6 +67,6 @@ pub record Rendered (placed : Placed) (n m : ℕ) (flow old : List ℕ) (r : ℕ
 -- the bytes are a text, and 0 after it up to their end; the last two parts follow, and are what lending `&bytes[..length]` asks
 pub record Prints (text : List ℕ) (r : Printed) : Type 0 where
   pub length-is : r .length ≡ length text
-  pub bytes-are : r .bytes ≡ text ++ replicate (17456 - length text) 0
+  pub bytes-are : r .bytes ≡ text ++ replicate (textMost - length text) 0
   pub fits : r .length ≤ length (r .bytes)
   pub front : r .length ≡ length (take (r .length) (r .bytes))

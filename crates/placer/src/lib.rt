@@ -2,7 +2,7 @@
 // that ("The printing program").
 mod text;
 
-use finder::inner::Search;
+use slacks::Search;
 use specification::Counts;
 use specification::Placed;
 use specification::Refusal;
@@ -12,9 +12,12 @@ ghost use Rattle.specification.specs.Find.{findAndRun, findAndRunFlow};
 ghost use Rattle.specification.specs.Text.{printed};
 ghost use Rattle.placer.specs.Rendering.{Prints};
 
-// A text: the first `length` bytes. 48 bytes are enough for a first line and 17 for a pair's, of which there are at most 1,024.
+// The bytes of the longest text: 48 for its first line, and 17 for the line of each of 1,024 pairs.
+pub const TEXT_MOST: usize = 48 + 17 * 1024;
+
+// A text: the first `length` bytes.
 pub struct Printed {
-    pub bytes: [u8; 17456],
+    pub bytes: [u8; TEXT_MOST],
     pub length: usize,
 }
 
@@ -31,9 +34,8 @@ pub fn find_and_run(book: &[u8], amounts: &[u8], flow: &mut [u32]) -> Placed
     if flow.len() < n * m {
         return Placed::Refused(Refusal::BufferTooShort);
     }
-    let offsets = book::inner::offsets(book, n);
-    let mut order = [0u8; 2055];
-    let found = finder::inner::find_by(book, &offsets, n, m, &mut order);
+    let mut order = [0u8; files::ORDER_MOST];
+    let found = finder::inner::find_by(book, n, m, &mut order);
     let Search::Found(count) = found else {
         return Placed::Refused(Refusal::NoOrder);
     };
@@ -42,19 +44,20 @@ pub fn find_and_run(book: &[u8], amounts: &[u8], flow: &mut [u32]) -> Placed
     run::inner::run_by(&order[..length], count, n, m, remaining, book, flow)
 }
 
-// How many bytes of each file are read at most: one more than the largest file has, so that a longer one is refused.
-pub const BOOK_MOST: usize = 4232;
+// How many bytes of each file are read at most, 4,232 and 264: one more than the largest has, so that a longer one is refused. The largest
+// book has its opening and 32 rows of a word and 32 costs; the largest amounts have theirs and 64 amounts.
+pub const BOOK_MOST: usize = 7 + 32 * (4 + 4 * 32) + 1;
 
-pub const AMOUNTS_MOST: usize = 264;
+pub const AMOUNTS_MOST: usize = 7 + 4 * (32 + 32) + 1;
 
-// The text that is printed of a book and its amounts, of each of which at most so many bytes are read.
+// The text that is printed of a book and its amounts, as far as they are read.
 pub fn printed_text(book: &[u8], amounts: &[u8]) -> Printed
     ensures { λ r. ⌜ Prints (printed (now (book .entry)) (now (amounts .entry))) r ⌝ }
 {
     let book = text::at_most(book, BOOK_MOST);
     let mut flow = [0u32; 1024];
     let placed = find_and_run(book, text::at_most(amounts, AMOUNTS_MOST), &mut flow);
-    let mut bytes = [0u8; 17456];
+    let mut bytes = [0u8; TEXT_MOST];
     let lots = files::u8_at(book, 5) as usize;
     let calls = files::u8_at(book, 6) as usize;
     let length = text::render(placed, lots, calls, &flow, &mut bytes);

@@ -9,6 +9,7 @@ ghost use Prim.Native.Nat.{_+_, _*_, _≤_, _<_};
 ghost use lib.ListN.{length, take};
 ghost use Rattle.specification.specs.Text.{decimal, line, refusedWord, pairLines};
 ghost use Rattle.placer.specs.Rendering.{Appended, Room, AppendedWithin, lineOf, answerText, CountsFit, Rendered};
+ghost use Rattle.placer.specs.Rendering.{pairMost, pairsMost, refusalMost, textMost};
 
 // One byte.
 fn put(out: &mut [u8], at: usize, byte: u8) -> usize
@@ -74,8 +75,8 @@ fn last_two(out: &mut [u8], at: usize, a: u64, b: u64) -> usize
 
 // The line of a pair, if it has units: lot, call, units.
 fn pair_line(out: &mut [u8], at: usize, lot: Lot, call: Call, units: u32) -> usize
-    requires { ⌜ (lot .0 < 32) × (call .0 < 32) × (at + 17 ≤ length (now out)) ⌝ }
-    ensures { λ r. ⌜ AppendedWithin 17 at (now (out .entry)) (lineOf (lot .0) (call .0) units) r (now (out .exit)) ⌝ }
+    requires { ⌜ (lot .0 < 32) × (call .0 < 32) × (at + pairMost ≤ length (now out)) ⌝ }
+    ensures { λ r. ⌜ AppendedWithin pairMost at (now (out .entry)) (lineOf (lot .0) (call .0) units) r (now (out .exit)) ⌝ }
 {
     let i = lot.0;
     let j = call.0;
@@ -88,8 +89,8 @@ fn pair_line(out: &mut [u8], at: usize, lot: Lot, call: Call, units: u32) -> usi
 
 // The lines of the first n times m entries of a flow, by lot and then call.
 fn pair_lines(out: &mut [u8], at: usize, n: usize, m: usize, flow: &[u32; 1024]) -> usize
-    requires { ⌜ (n ≤ 32) × (m ≤ 32) × (at + 17408 ≤ length (now out)) ⌝ }
-    ensures { λ r. ⌜ AppendedWithin 17408 at (now (out .entry)) (pairLines m (now (flow .entry)) (n * m)) r (now (out .exit)) ⌝ }
+    requires { ⌜ (n ≤ 32) × (m ≤ 32) × (at + pairsMost ≤ length (now out)) ⌝ }
+    ensures { λ r. ⌜ AppendedWithin pairsMost at (now (out .entry)) (pairLines m (now (flow .entry)) (n * m)) r (now (out .exit)) ⌝ }
 {
     let cells = n * m;
     let mut next = at;
@@ -111,9 +112,9 @@ fn answer_text(
     m: usize,
     flow: &[u32; 1024],
 ) -> usize
-    requires { ⌜ (n ≤ 32) × (m ≤ 32) × (17456 ≤ length (now out)) × (length (now verdict) ≤ 5) ⌝ }
+    requires { ⌜ (n ≤ 32) × (m ≤ 32) × (textMost ≤ length (now out)) × (length (now verdict) ≤ 5) ⌝ }
     ensures { λ r.
-        ⌜ AppendedWithin 17456 0 (now (out .entry)) (answerText (now (verdict .entry)) units cost n m (now (flow .entry))) r
+        ⌜ AppendedWithin textMost 0 (now (out .entry)) (answerText (now (verdict .entry)) units cost n m (now (flow .entry))) r
         (now (out .exit)) ⌝ }
 {
     let first = word(out, 0, verdict);
@@ -123,8 +124,8 @@ fn answer_text(
 
 // The text of a refusal: its number.
 fn refusal(out: &mut [u8], k: u64) -> usize
-    requires { ⌜ 29 ≤ length (now out) ⌝ }
-    ensures { λ r. ⌜ AppendedWithin 29 0 (now (out .entry)) (line refusedWord (decimal k ∷ [])) r (now (out .exit)) ⌝ }
+    requires { ⌜ refusalMost ≤ length (now out) ⌝ }
+    ensures { λ r. ⌜ AppendedWithin refusalMost 0 (now (out .entry)) (line refusedWord (decimal k ∷ [])) r (now (out .exit)) ⌝ }
 {
     let next = word(out, 0, b"REFUSED");
     last_field(out, next, k)
@@ -132,17 +133,17 @@ fn refusal(out: &mut [u8], k: u64) -> usize
 
 // The printed text of an answer and its flow. Replies the text's length.
 pub fn render(placed: Placed, n: usize, m: usize, flow: &[u32; 1024], out: &mut [u8]) -> usize
-    requires { ⌜ CountsFit placed n m × (17456 ≤ length (now out)) ⌝ }
+    requires { ⌜ CountsFit placed n m × (textMost ≤ length (now out)) ⌝ }
     ensures { λ r. ⌜ Rendered placed n m (now (flow .entry)) (now (out .entry)) r (now (out .exit)) ⌝ }
 {
     match placed {
         Placed::Full(units, cost) => answer_text(out, b"FULL", units, cost, n, m, flow),
         Placed::Short(units, cost) => answer_text(out, b"SHORT", units, cost, n, m, flow),
-        Placed::Refused(r) => refusal(out, files::number(r)),
+        Placed::Refused(r) => refusal(out, files::number(r) as u64),
     }
 }
 
-// At most so many bytes of a file, from its start.
+// The first `most` bytes of a file, or all where it has fewer.
 pub fn at_most(file: &[u8], most: usize) -> &[u8]
     ensures { λ r. ⌜ now r ≡ take most (now (file .entry)) ⌝ }
 {

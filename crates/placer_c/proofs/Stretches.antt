@@ -28,7 +28,7 @@ pub record CostsStand (book : List ℕ) (lot : ℕ) : Type 0 where
   pub stretch : take (length (lotCosts book lot)) (drop (rowStart book lot + 4) book) ≡ lotCosts book lot
 
 module _ (book : List ℕ) (lot : ℕ) where
-  -- the costs of a row, in the book's own places
+  -- the costs of a row, by their offsets in the book
   in-book : (count : ℕ) → take count (drop 4 (rowAt book lot)) ≡ take count (drop (rowStart book lot + 4) book)
   in-book count = rw (row-is, drop-drop)
 

@@ -5,7 +5,7 @@ use Prim.Native.Nat.{ℕ, _+_}
 use lib.ListN.{length, getD}
 use lib.Dec.{eqb}
 use Rattle.specification.specs.Reply.{Reply, gives, refuses, Size, Verdict, full, short, Outcome}
-use Rattle.specification.specs.Book.{lotCosts}
+use Rattle.specification.specs.Book.{lotCosts, PairCost, costs, notEligible, outside}
 use Rattle.book.specs.Pairs.{rowStart}
 use Rattle.placer_c.specs.declared.Answer.{Answer}
 use Rattle.placer_c.specs.declared.Stretch.{Stretch}
@@ -14,6 +14,7 @@ use Rattle.placer_c.specs.declared.Stretch.{Stretch}
 abbrev pub fourOf : List ℕ → List ℕ
 fourOf vs = getD vs 0 0 ∷ getD vs 1 0 ∷ getD vs 2 0 ∷ getD vs 3 0 ∷ []
 
+-- a number, a verdict, and up to four values
 abbrev pub answer : ℕ → ℕ → List ℕ → Answer
 answer number verdict vs = record { number = number; verdict = verdict; values = fourOf vs }
 
@@ -26,10 +27,17 @@ answerOf told (refuses k vs) = answer k 0 vs
 abbrev pub counts : Size → Answer
 counts size = answer 0 0 (size .lots ∷ size .calls ∷ [])
 
+-- 1 and the cost of an eligible pair; 0 and 0 of one that is not eligible or not in the book
+abbrev pub costOf : PairCost → Answer
+costOf (costs cost) = answer 0 0 (1 ∷ cost ∷ [])
+costOf notEligible = answer 0 0 (0 ∷ 0 ∷ [])
+costOf outside = answer 0 0 (0 ∷ 0 ∷ [])
+
 -- a count of pairs, or a file's length
 abbrev pub number : ℕ → Answer
 number n = answer 0 0 (n ∷ [])
 
+-- Full is 1 and Short is 2
 abbrev pub verdictNumber : Verdict → ℕ
 verdictNumber full = 1
 verdictNumber short = 2

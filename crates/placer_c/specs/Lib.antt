@@ -1,2 +1,2 @@
 -- What a call hands back to C.
-pub mod Answers
+pub mod Answers  -- each reply in six numbers, and a stretch in two

@@ -2,15 +2,16 @@
 // and hands its answer back as numbers.
 mod told;
 
+use specification::Call;
 use specification::Lot;
 ghost use mathlib.Core.Path.{_≡_};
 ghost use lib.ListN.{take, drop};
-ghost use Rattle.specification.specs.Book.{readBook, lotCosts};
+ghost use Rattle.specification.specs.Book.{readBook, lotCosts, pairCost};
 ghost use Rattle.specification.specs.Amounts.{readAmounts};
 ghost use Rattle.specification.specs.Check.{checkOrder};
 ghost use Rattle.specification.specs.Run.{runOrder, runFlow};
 ghost use Rattle.specification.specs.Find.{findOrder, findBuffer, findAndRun, findAndRunFlow};
-ghost use Rattle.placer_c.specs.Answers.{answerOf, counts, number, placed, stretchOf};
+ghost use Rattle.placer_c.specs.Answers.{answerOf, counts, costOf, number, placed, stretchOf};
 
 // A reply: 0 or the refusal's number; 1 for Full, 2 for Short, else 0; and up to four values, the others 0.
 #[repr(C)]
@@ -50,6 +51,14 @@ pub extern "C" fn placer_lot_costs(book: &[u8], lot: usize) -> Stretch
         start: book::inner::row_at(book, Lot(lot)) + 4,
         len: len,
     }
+}
+
+// The cost of a pair: 1 and the cost where it is eligible; 0 and 0 where it is not, or where its lot or call is not in the book.
+#[no_mangle]
+pub extern "C" fn placer_pair_cost(book: &[u8], lot: usize, call: usize) -> Answer
+    ensures { λ r. ⌜ r ≡ answerOf costOf (pairCost (now (book .entry)) lot call) ⌝ }
+{
+    told::cost(book::pair_cost(book, Lot(lot), Call(call)))
 }
 
 // Reads amounts with their book: n and m.

@@ -1,5 +1,6 @@
 // The answers of document 01's entry points, told in the six numbers that C is handed.
 use super::Answer;
+use book::Cost;
 use specification::Checked;
 use specification::Counts;
 use specification::Found;
@@ -8,48 +9,32 @@ use specification::Refusal;
 ghost use mathlib.Core.Path.{_≡_};
 ghost use mathlib.Core.List.{[], _∷_};
 ghost use Rattle.specification.specs.Reply.{stated, statedCounts, statedChecked, statedPlaced, statedFound};
-ghost use Rattle.placer_c.specs.Answers.{fourOf, answer, answerOf, counts, number, placed};
+ghost use Rattle.book.specs.Pairs.{statedCost};
+ghost use Rattle.placer_c.specs.Answers.{fourOf, answer, answerOf, counts, costOf, number, placed};
 
-// A line of the table under "Refused": the cause's number and its values, the unused ones 0.
-struct Line(u32, [u64; 4]);
-
-fn line_of(cause: Refusal) -> Line
-    ensures { λ r. ⌜ (r .0 ≡ stated cause .number) × (r .1 ≡ fourOf (stated cause .values)) ⌝ }
+// The values that the table under "Refused" returns with a cause, the unused ones 0.
+fn values_of(cause: Refusal) -> [u64; 4]
+    ensures { λ r. ⌜ r ≡ fourOf (stated cause .values) ⌝ }
 {
     match cause {
-        Refusal::UnderSeven => Line(1, [0; 4]),
-        Refusal::MarkDiffers => Line(2, [0; 4]),
-        Refusal::VersionNotOne => Line(3, [0; 4]),
-        Refusal::CountOutside => Line(4, [0; 4]),
-        Refusal::BitOutside(i) => Line(5, [i.0 as u64, 0, 0, 0]),
-        Refusal::EndsEarly => Line(6, [0; 4]),
-        Refusal::CostTooHigh(i, j) => Line(7, [i.0 as u64, j.0 as u64, 0, 0]),
-        Refusal::BytesAfter => Line(8, [0; 4]),
-        Refusal::PairNotEligible(place) => Line(9, [place as u64, 0, 0, 0]),
-        Refusal::PairMetBefore(place) => Line(10, [place as u64, 0, 0, 0]),
-        Refusal::CrossNotEligible(i, j, k, l) => Line(
-            11,
-            [i.0 as u64, j.0 as u64, k.0 as u64, l.0 as u64],
-        ),
-        Refusal::CrossSumTooHigh(i, j, k, l) => Line(
-            12,
-            [i.0 as u64, j.0 as u64, k.0 as u64, l.0 as u64],
-        ),
-        Refusal::NoOrder => Line(13, [0; 4]),
-        Refusal::PairMissing => Line(14, [0; 4]),
-        Refusal::CountsDiffer => Line(15, [0; 4]),
-        Refusal::AmountTooHigh => Line(16, [0; 4]),
-        Refusal::BufferTooShort => Line(17, [0; 4]),
+        Refusal::BitOutside(i) => [i.0 as u64, 0, 0, 0],
+        Refusal::CostTooHigh(i, j) => [i.0 as u64, j.0 as u64, 0, 0],
+        Refusal::PairNotEligible(place) => [place as u64, 0, 0, 0],
+        Refusal::PairMetBefore(place) => [place as u64, 0, 0, 0],
+        Refusal::CrossNotEligible(i, j, k, l) => [i.0 as u64, j.0 as u64, k.0 as u64, l.0 as u64],
+        Refusal::CrossSumTooHigh(i, j, k, l) => [i.0 as u64, j.0 as u64, k.0 as u64, l.0 as u64],
+        _ => [0; 4],
     }
 }
 
+// A cause: its number, and its values.
 fn refused(cause: Refusal) -> Answer
     ensures { λ r. ⌜ r ≡ answer (stated cause .number) 0 (stated cause .values) ⌝ }
 {
-    let told = line_of(cause);
-    let values = told.1;
+    let number = files::number(cause);
+    let values = values_of(cause);
     Answer {
-        number: told.0,
+        number: number,
         verdict: 0,
         values: values,
     }
@@ -66,6 +51,7 @@ fn accepted(verdict: u32, first: u64, second: u64) -> Answer
     }
 }
 
+// n and m.
 pub fn counts(reply: Counts) -> Answer
     ensures { λ r. ⌜ r ≡ answerOf counts (statedCounts reply) ⌝ }
 {
@@ -75,6 +61,19 @@ pub fn counts(reply: Counts) -> Answer
     }
 }
 
+// 1 and the cost of an eligible pair; 0 and 0 of one that is not eligible or not in the book.
+pub fn cost(reply: Cost) -> Answer
+    ensures { λ r. ⌜ r ≡ answerOf costOf (statedCost reply) ⌝ }
+{
+    match reply {
+        Cost::Of(cost) => accepted(0, 1, cost as u64),
+        Cost::NotEligible => accepted(0, 0, 0),
+        Cost::Outside => accepted(0, 0, 0),
+        Cost::Refused(cause) => refused(cause),
+    }
+}
+
+// A count of pairs.
 pub fn checked(reply: Checked) -> Answer
     ensures { λ r. ⌜ r ≡ answerOf number (statedChecked reply) ⌝ }
 {
@@ -84,6 +83,7 @@ pub fn checked(reply: Checked) -> Answer
     }
 }
 
+// Full or Short, units and cost.
 pub fn placed(reply: Placed) -> Answer
     ensures { λ r. ⌜ r ≡ answerOf placed (statedPlaced reply) ⌝ }
 {
@@ -94,6 +94,7 @@ pub fn placed(reply: Placed) -> Answer
     }
 }
 
+// A file's length.
 pub fn found(reply: Found) -> Answer
     ensures { λ r. ⌜ r ≡ answerOf number (statedFound reply) ⌝ }
 {

@@ -121,13 +121,14 @@ fn one_by_one() {
     );
 }
 
-// The lowest byte of a number at a place of a file, if there is room for it.
+// Puts the lowest byte of a number at an offset, if the file reaches so far.
 fn put(out: &mut [u8], at: usize, x: u32) {
     if at < out.len() {
         out[at] = (x % 256) as u8;
     }
 }
 
+// Puts a 32-bit number there.
 fn put_u32(out: &mut [u8], start: u32, x: u32) {
     let at = start as usize;
     put(out, at, x);
@@ -136,7 +137,7 @@ fn put_u32(out: &mut [u8], start: u32, x: u32) {
     put(out, at + 3, x / 16777216);
 }
 
-// So many 32-bit numbers after the opening of a file: one at every 33rd place, from the first on, and another elsewhere.
+// `count` 32-bit numbers after the opening of a file: every 33rd, from the first on, is `first`, and the others are `others`.
 fn fill(out: &mut [u8], count: u16, first: u32, others: u32) {
     let mut k: u16 = 0;
     while k < count {

@@ -10,7 +10,7 @@ ghost use Rattle.specification.specs.Reply.{statedPlaced};
 ghost use Rattle.specification.specs.Run.{runOrder, runFlow};
 ghost use Rattle.run.specs.Run.{checkRefusal};
 
-// The refusal of a check that is one, as after `let Checked::Passes(count) = checked else`; of a count, which holds none, the first cause.
+// The refusal that a check ended with. It is asked only where the check is refused; for one that passes it answers the first cause.
 fn check_refusal(checked: Checked) -> Refusal
     ensures { λ r. ⌜ r ≡ checkRefusal checked ⌝ }
 {

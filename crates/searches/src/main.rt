@@ -12,7 +12,7 @@ fn show_number(x: u64) {
     io::print_decimal(1, x);
 }
 
-// The pair whose two bytes stand at a place.
+// The pair whose two bytes stand from a byte on.
 fn show_pair(order: &[u8], at: usize)
     requires { ⌜ at < 100 ⌝ }
 {
@@ -36,7 +36,7 @@ fn first_contents(byte: u8) -> u64
     if byte == 170 { 1 } else { 0 }
 }
 
-// How many bytes from a place on are as at first.
+// How many bytes from one on are as at first.
 fn kept_from(order: &[u8], from: usize) -> u64 {
     let mut kept: u64 = 0;
     let mut k = from;
@@ -75,7 +75,7 @@ fn show(label: &[u8], book: &[u8], order: &mut [u8]) {
         }
         Found::Refused(r) => {
             io::write_all(1, b" REFUSED");
-            show_number(files::number(r));
+            show_number(files::number(r) as u64);
             show_kept(order, 0);
         }
     }

@@ -14,7 +14,7 @@ use Rattle.transport.proofs.Laws.Searches.{every-says, every-fails}
 use Rattle.specification.specs.Reply.{gives, refuses, Size}
 use Rattle.specification.specs.Bytes.{byteAt, amountsMark}
 use Rattle.specification.specs.Book.{bookLots, bookCalls, readBook, problemOf}
-use Rattle.specification.specs.Amounts.{amountLimit, amountAt, lotAmount, callAmount, readAmountsOf, readAmounts}
+use Rattle.specification.specs.Amounts.{amountLimit, largestAmounts, amountAt, lotAmount, callAmount, readAmountsOf, readAmounts}
 use Rattle.specification.proofs.Replies.{
   Says,
   giving,
@@ -135,6 +135,6 @@ module _ {book s : List ℕ} {n : Size} (read : BookRead book n) (amounts : Amou
     calls-within = λ j h. amounts .within (bookLots book + j) (omega (arith, same-sizes));
   }
 
-  -- and their file has at most 7 + 4 * 64 bytes
-  pub amounts-length : length s ≤ 263
+  -- and their file is no longer than the largest
+  pub amounts-length : length s ≤ largestAmounts
   amounts-length = omega (arith, amounts .whole, read .lots-within, read .calls-within, same-sizes)

@@ -1,6 +1,6 @@
 -- What reading a book says. A readable book has the opening of a book, 1 to 32 lots and calls, for each lot a whole row whose word has
 -- no bit past the last call and whose costs are within the limit, and nothing after the last row; and a book with all this is readable.
--- A refusal says what its line of the table says, of the first place in the stated order at which a line applies.
+-- A refusal says what its line of the table says, and is the first that applies in the stated sequence.
 use mathlib.Core.Path.{_≡_, refl, sym, _∙_, ap, subst}
 use mathlib.Core.Logic.{_⊎_, inl, inr, ⊎-elim}
 use mathlib.Core.Bool.{Bool, not, _&&_, _||_}
@@ -17,7 +17,7 @@ use Rattle.transport.proofs.Laws.Tests.{and-says, or-says, below-suc}
 use Rattle.transport.proofs.Laws.Sets.{count-le}
 use Rattle.specification.specs.Reply.{gives, refuses, Size}
 use Rattle.specification.specs.Bytes.{bookMark}
-use Rattle.specification.specs.Book.{costLimit, bit, rowWord, rowSize, bookLots, bookCalls, countOutside}
+use Rattle.specification.specs.Book.{costLimit, largestBook, bit, rowWord, rowSize, bookLots, bookCalls, countOutside}
 use Rattle.specification.specs.Book.{readRows, readBook, rowAt, problemOf}
 use Rattle.specification.specs.Demands.{BookLimits}
 use Rattle.specification.proofs.Replies.{
@@ -149,8 +149,8 @@ admitted-inside book i j t =
     (ltb→lt i (bookLots book) lot, ltb→lt j (bookCalls book) call, t)
 
 module _ {book : List ℕ} {n : Size} (read : BookRead book n) where
-  -- a row has at most 4 + 4 * 32 bytes, and so the book has at most 7 + 32 * 132
-  rows-length : (left i : ℕ) → i + left ≡ bookLots book → length (rowAt book i) ≤ 132 * left
+  -- a row has at most 4 + 4 * 32 bytes
+  rows-length : (left i : ℕ) → i + left ≡ bookLots book → length (rowAt book i) ≤ (4 + 4 * 32) * left
   unfolding rowAt
   rows-length zero i e =
       let last : i ≡ bookLots book = omega arith in
@@ -166,7 +166,7 @@ module _ {book : List ℕ} {n : Size} (read : BookRead book n) where
         read .calls-within,
       )
 
-  pub book-length : length book ≤ 4231
+  pub book-length : length book ≤ largestBook
   unfolding rowAt
   book-length = omega (arith, length-drop 7 book, read .opened .seven, rows-length (bookLots book) 0 (omega arith), read .lots-within)
 

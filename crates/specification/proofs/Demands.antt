@@ -8,6 +8,7 @@ use Prim.Native.Nat.{ℕ, _≤_}
 use native.Mathlib.Omega.{arith}
 use lib.Dec.{ltb, ltb→lt, lit≤}
 use lib.ListN.{length}
+use Rattle.transport.specs.Problem.{Problem}
 use Rattle.transport.specs.Greedy.{Pair}
 use Rattle.transport.specs.Finder.{find, size}
 use Rattle.transport.proofs.Laws.Tests.{T-false}
@@ -21,7 +22,8 @@ use Rattle.specification.specs.OrderFile.{orderCount, orderPairs, orderF
 use Rattle.specification.specs.Check.{checkOrder}
 use Rattle.specification.specs.Run.{runFlow}
 use Rattle.specification.specs.Find.{orderLength, foundOrder, findOrder, findBuffer, foundToRun, findAndRun, findAndRunFlow}
-use Rattle.specification.specs.Demands.{InTable, Answered, Demand1, Readable, OrderShaped, Passing, returned, Demand2}
+use Rattle.specification.specs.Text.{textOf, printed}
+use Rattle.specification.specs.Demands.{InTable, Answered, Printable, Demand1, Readable, OrderShaped, Passing, returned, Demand2}
 use Rattle.specification.specs.Demands.{GoodOrder, Best, Demand3}
 use Rattle.specification.proofs.Replies.{
   Says,
@@ -37,6 +39,7 @@ use Rattle.specification.proofs.Replies.{
 use Rattle.specification.proofs.Books.{book-says, book-reads, book-limits}
 use Rattle.specification.proofs.AmountsFiles.{amounts-say, amounts-read, amounts-within}
 use Rattle.specification.proofs.LotCosts.{lot-costs-length, lot-cost-at}
+use Rattle.specification.proofs.PairCosts.{pair-cost-says, pair-costs, pair-not-eligible, pair-outside}
 use Rattle.specification.proofs.Lines.{book-in-table, amounts-in-table}
 use Rattle.specification.proofs.Checks.{check-says, check-in-table, check-passes, check-passes-only}
 use Rattle.specification.proofs.OrderFiles.{count-back, order-back, order-file-shaped}
@@ -52,7 +55,6 @@ use Rattle.specification.proofs.Finds.{
   find-in-table,
 }
 use Rattle.specification.proofs.FindRuns.{find-run-in-table, find-and-run-says, find-and-run-is-run, find-and-run-refused-13}
-use Rattle.specification.proofs.Texts.{printed-ends}
 
 -- Demand 1. A reply is answered if its refusals have numbers of the table, and leave the buffer as it was.
 answered : {A : Type 0} {G : A → Type 0} {Q : ℕ → List ℕ → Type 0} {r : Reply A} (before after : List ℕ) → Says G Q r
@@ -61,8 +63,15 @@ answered : {A : Type 0} {G : A → Type 0} {Q : ℕ → List ℕ → Type 0} {r 
 answered before after (giving g) numbers left = tt
 answered before after (refusing {k} {vs} q) numbers left = (numbers k vs q, left k vs refl)
 
+-- and its text is that of a value, or of a line of the table
+printable : {G : Outcome → Type 0} {Q : ℕ → List ℕ → Type 0} {r : Reply Outcome} → Says G Q r
+    → ((k : ℕ) (vs : List ℕ) → Q k vs → InTable k vs) → (P : Problem) (flow : List ℕ) → Printable P (textOf r P flow)
+unfolding textOf
+printable (giving {a} g) numbers P flow = inl (a, flow, refl)
+printable (refusing {k} {vs} q) numbers P flow = let (r, number, _) = numbers k vs q in inr (r, rw number refl)
+
 pub demand1 : Demand1
-unfolding lotCosts runFlow findOrder findBuffer findAndRun findAndRunFlow
+unfolding lotCosts runFlow findOrder findBuffer findAndRun findAndRunFlow printed
 demand1 = record {
   book = λ book. answered [] [] (book-says book) (λ k vs q. book-in-table q .0) (λ k vs e. refl);
   amounts = λ book amounts. answered [] [] (amounts-say book amounts) (λ k vs q. amounts-in-table q .0) (λ k vs e. refl);
@@ -72,7 +81,8 @@ demand1 = record {
       (λ k vs e. rw (refused-before (foundOrder book buffer) _ k vs e) refl);
   find-and-run = λ book amounts flow. answered flow _ (find-and-run-says book amounts flow) (λ k vs. find-run-in-table)
       (λ k vs e. rw (refused-before (foundToRun book amounts flow) _ k vs e) refl);
-  prints = printed-ends;
+  pair-cost = λ book lot call. answered [] [] (pair-cost-says book lot call) (λ k vs q. book-in-table q .0) (λ k vs e. refl);
+  prints = λ bookFile amountsFile. printable (find-and-run-says _ _ _) (λ k vs. find-run-in-table) _ _;
   costs-of-refused = λ book lot k vs e. rw e refl;
   costs-outside = λ book lot n e outside. rw (e, T-false (ltb lot (n .lots)) (λ t. omega (arith, ltb→lt lot (n .lots) t))) refl;
 }
@@ -93,6 +103,9 @@ demand2 = record {
   book-limits = book-limits;
   lot-costs = λ book n e i j (inside, _, admitted). lot-cost-at book n e i inside j admitted;
   lot-costs-length = lot-costs-length;
+  pair-costs = pair-costs;
+  pair-not-eligible = pair-not-eligible;
+  pair-outside = pair-outside;
   amounts-limits = λ book amounts n e.
       let (book-is, read) = amounts-read book amounts n e in
       (book-reads book n book-is, amounts-within book-is read);
@@ -158,7 +171,7 @@ demand3 = record {
   or-13 = refused-if-none-good;
   one-of-two = found-or-13;
   by-returned = λ book buffer n e. (written book buffer n e .its-length, by-passing book _ (returned-passes book buffer n e));
-  by-passing = by-passing;
+  by-passing = λ book order n e. by-passing book order (check-passes-only book order n e);
   good-passes = good-passes;
   find-and-run = find-and-run-best;
 }

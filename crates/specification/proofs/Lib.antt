@@ -1,23 +1,23 @@
 -- What is proved of document 01's definitions: what each reply means, and the demands.
-pub mod AllCases
-pub mod Replies
-pub mod Numbers
-pub mod Bits
-pub mod Rows
-pub mod Books
-pub mod LotCosts
-pub mod AmountsFiles
-pub mod Lines
-pub mod Holding
-pub mod Crossing
-pub mod Checks
-pub mod OrderFiles
-pub mod Flows
-pub mod Runs
-pub mod Finds
-pub mod FindRuns
-pub mod Bounds
-pub mod Texts
-pub mod Demands
-pub mod Examples
-pub mod Stated
+pub mod AllCases  -- each number of the table on an input that shows it, computed
+pub mod Replies  -- what a reply means is read off its steps
+pub mod Numbers  -- little-endian numbers of a part of a file
+pub mod Bits  -- set bits of a word, and the book's test for 5
+pub mod Rows  -- what reading an opening, and one row, says
+pub mod Books  -- what reading a book says
+pub mod LotCosts  -- the stretch of a lot's costs
+pub mod PairCosts  -- the cost of one pair
+pub mod AmountsFiles  -- what reading amounts says
+pub mod Lines  -- a refusal of a book or of amounts is a line of the table
+pub mod Holding  -- the check's first half: each eligible pair once
+pub mod Crossing  -- the check's second half: the quadruples
+pub mod Checks  -- what checking an order says
+pub mod OrderFiles  -- the file of a list of pairs, read back
+pub mod Flows  -- the flow that a run writes, and its sums
+pub mod Runs  -- what running an order says, of every order that passes
+pub mod Finds  -- what finding an order says
+pub mod FindRuns  -- finding and running in one call is the run by the order found
+pub mod Bounds  -- units and cost fit 64 bits
+pub mod Demands  -- the three demands, proved
+pub mod Examples  -- the demands speak of something: F1 and F9
+pub mod Stated  -- two answers that state the same are the same

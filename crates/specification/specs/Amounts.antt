@@ -13,6 +13,10 @@ use Rattle.specification.specs.Book.{readBook, bookLots}
 abbrev pub amountLimit : ℕ
 amountLimit = 1000000000
 
+-- the bytes of the largest file: the opening, and the amounts of 32 lots and 32 calls
+abbrev pub largestAmounts : ℕ
+largestAmounts = 7 + 4 * (32 + 32)
+
 -- amount k of the file: "n lot amounts and m call amounts, 32 bits each"
 abbrev pub amountAt : List ℕ → ℕ → ℕ
 amountAt s k = u32At s (7 + 4 * k)

@@ -13,6 +13,10 @@ use Rattle.specification.specs.Bytes.{byteAt, u32At, bookMark, readOpeni
 abbrev pub costLimit : ℕ
 costLimit = 1000000
 
+-- "Largest book: 4,231 bytes": the opening, and for each of 32 lots a word and 32 costs
+abbrev pub largestBook : ℕ
+largestBook = 7 + 32 * (4 + 4 * 32)
+
 -- bit j of a word, bit 0 the lowest
 abbrev pub bit : ℕ → ℕ → Bool
 bit word j = eqb (word / 2 ^ j % 2) 1
@@ -25,7 +29,7 @@ rowWord row = u32At row 0
 abbrev pub rowSize : List ℕ → ℕ
 rowSize row = 4 + 4 * ones (rowWord row)
 
--- the cost of call j: the set bits below bit j are its place among the row's costs
+-- the cost of call j: before it stand as many costs of the row as bits are set below bit j
 abbrev pub rowCost : List ℕ → ℕ → ℕ
 rowCost row j = u32At row (4 + 4 * ones (rowWord row % 2 ^ j))
 
@@ -90,3 +94,15 @@ problemOf book = record {
 unfoldable pub lotCosts : List ℕ → ℕ → List ℕ
 lotCosts book i = afterwards (readBook book) [] (λ size.
     cond (ltb i (size .lots)) (take (4 * ones (rowWord (rowAt book i))) (drop 4 (rowAt book i))) [])
+
+-- what a readable book says of a lot and a call: the pair's cost, that the pair is not eligible, or that one of the two is not in the book
+pub data PairCost : Type 0 where
+  costs : ℕ → PairCost
+  notEligible outside : PairCost
+
+-- the cost of one pair, lot i with call j: the book's refusals, and else as its problem has the pair
+abbrev pub pairCost : List ℕ → ℕ → ℕ → Reply PairCost
+pairCost book i j = readBook book >>= λ size. gives (
+    cond (ltb i (size .lots) && ltb j (size .calls))
+    (cond (problemOf book .admits i j) (costs (problemOf book .cost i j)) notEligible)
+    outside)

@@ -6,7 +6,7 @@ use lib.ListN.{length, getD}
 use lib.Dec.{ltb, eqb}
 use Rattle.specification.specs.Reply.{Reply, refuseIf, _>>=_}
 
--- the byte at a place; past the end 0. No field of an accepted file lies there: 1 or 6 is refused first
+-- the byte at an offset; past the end 0. No field of an accepted file lies there: 1 or 6 is refused first
 abbrev pub byteAt : List ℕ → ℕ → ℕ
 byteAt s at = getD s at 0
 

@@ -1,7 +1,7 @@
 -- The three demands, as types over what the entry points reply and leave in their buffers. Above each part stands the sentence it is.
 use mathlib.Core.Path.{_≡_}
 use mathlib.Core.Logic.{_⊎_, _↔_}
-use mathlib.Core.List.{List, [], _∷_, _++_}
+use mathlib.Core.List.{List, [], _∷_}
 use Prim.Native.Nat.{ℕ, _+_, _*_, _%_, _^_, _≤_, _<_}
 use lib.ListN.{length, getD, take}
 use lib.Count.{ones}
@@ -12,13 +12,13 @@ use Rattle.transport.specs.Finder.{size}
 use Rattle.specification.specs.declared.Refusal.{Refusal}
 use Rattle.specification.specs.Reply.{Reply, gives, refuses, stated, Size, Outcome, full}
 use Rattle.specification.specs.Bytes.{u32At, orderMark, readOpening}
-use Rattle.specification.specs.Book.{costLimit, rowWord, readBook, rowAt, problemOf, lotCosts}
+use Rattle.specification.specs.Book.{costLimit, largestBook, rowWord, readBook, rowAt, problemOf, lotCosts, costs, notEligible, outside, pairCost}
 use Rattle.specification.specs.Amounts.{amountLimit, readAmounts, lotAmount, callAmount}
 use Rattle.specification.specs.OrderFile.{orderCount, orderPairs, orderFile}
 use Rattle.specification.specs.Check.{checkOrder}
 use Rattle.specification.specs.Run.{greedyOn, runOrder, runFlow}
 use Rattle.specification.specs.Find.{orderLength, findOrder, findBuffer, findAndRun, findAndRunFlow}
-use Rattle.specification.specs.Text.{printed}
+use Rattle.specification.specs.Text.{decimal, line, refusedWord, textOf, bookMost, printed}
 
 -- "a number from the table in document 01", and the values that its line returns
 abbrev pub InTable : ℕ → List ℕ → Type 0
@@ -28,6 +28,11 @@ InTable k vs = (r : Refusal) × (stated r .number ≡ k) × (stated r .values �
 abbrev pub Answered : {A : Type 0} → Reply A → List ℕ → List ℕ → Type 0
 Answered (gives a) before after = Unit {0}
 Answered (refuses k vs) before after = InTable k vs × (after ≡ before)
+
+-- a text that is an outcome with the lines of a flow, or "REFUSED and its number" (document 01), one from the table
+abbrev pub Printable : Problem → List ℕ → Type 0
+Printable P text = ((o : Outcome) × (flow : List ℕ) × (text ≡ textOf (gives o) P flow))
+    ⊎ ((r : Refusal) × (text ≡ line refusedWord (decimal (stated r .number) ∷ [])))
 
 -- Demand 1. "The program as a whole finishes on every input": each entry point is a function that is defined on all files and buffers.
 -- Files are lent for reading alone: nothing here gives one later contents.
@@ -48,8 +53,10 @@ pub record Demand1 : Type 0 where
   pub costs-of-refused : (book : List ℕ) (lot k : ℕ) (vs : List ℕ) → readBook book ≡ refuses k vs → lotCosts book lot ≡ []
   -- and of a lot number n or more
   pub costs-outside : (book : List ℕ) (lot : ℕ) (n : Size) → readBook book ≡ gives n → n .lots ≤ lot → lotCosts book lot ≡ []
-  -- the printing program: on all files it prints a text that ends with a newline
-  pub prints : (bookFile amountsFile : List ℕ) → (front : List ℕ) × (printed bookFile amountsFile ≡ front ++ (10 ∷ []))
+  -- the cost of one pair
+  pub pair-cost : (book : List ℕ) (lot call : ℕ) → Answered (pairCost book lot call) [] []
+  -- the printing program: it prints an outcome of the book it has read, or a refusal, on all files
+  pub prints : (bookFile amountsFile : List ℕ) → Printable (problemOf (take bookMost bookFile)) (printed bookFile amountsFile)
 
 -- "A book is readable if none of the refusals listed for a book under Refused applies to it" (document 01, Words)
 abbrev pub Readable : List ℕ → Type 0
@@ -63,7 +70,7 @@ pub record BookLimits (book : List ℕ) (n : Size) : Type 0 where
   pub calls : (1 ≤ n .calls) × (n .calls ≤ 32)
   pub costs : (i j : ℕ) → Eligible (problemOf book) i j → problemOf book .cost i j ≤ costLimit
   pub pairs : size (problemOf book) ≤ 1024
-  pub bytes : length book ≤ 4231
+  pub bytes : length book ≤ largestBook
 
 -- an order file with the right opening and length; which pairs it holds is another question
 pub record OrderShaped (order : List ℕ) : Type 0 where
@@ -116,6 +123,15 @@ pub record Demand2 : Type 0 where
   -- "The number of set bits tells how many costs the lot has" (document 01)
   pub lot-costs-length : (book : List ℕ) (n : Size) → readBook book ≡ gives n → (i : ℕ) → i < problemOf book .lots
       → length (lotCosts book i) ≡ 4 * ones (rowWord (rowAt book i))
+  -- the cost of one pair: that of an eligible pair is replied
+  pub pair-costs : (book : List ℕ) (n : Size) → readBook book ≡ gives n → (i j : ℕ) → Eligible (problemOf book) i j
+      → pairCost book i j ≡ gives (costs (problemOf book .cost i j))
+  -- of another pair of the book's lots and calls, that it is not eligible
+  pub pair-not-eligible : (book : List ℕ) (n : Size) → readBook book ≡ gives n → (i j : ℕ) → i < n .lots → j < n .calls
+      → (Eligible (problemOf book) i j → ⊥) → pairCost book i j ≡ gives notEligible
+  -- and of any other, that it is outside the book
+  pub pair-outside : (book : List ℕ) (n : Size) → readBook book ≡ gives n → (i j : ℕ) → (n .lots ≤ i) ⊎ (n .calls ≤ j)
+      → pairCost book i j ≡ gives outside
   -- amounts that are read have n and m of their book and are within the limits
   pub amounts-limits : (book amounts : List ℕ) (n : Size) → readAmounts book amounts ≡ gives n
       → (readBook book ≡ gives n) × Within amountLimit (problemOf book) (lotAmount amounts) (callAmount book amounts)
@@ -192,7 +208,7 @@ pub record Demand3 : Type 0 where
   pub by-returned : (book buffer : List ℕ) (n : ℕ) → findOrder book buffer ≡ gives n
       → (n ≡ orderLength book) × ByPassing book (returned book buffer)
   -- it is one of those that pass, and the same holds of each of them
-  pub by-passing : (book order : List ℕ) → Passing book order → ByPassing book order
+  pub by-passing : (book order : List ℕ) (n : ℕ) → checkOrder book order ≡ gives n → ByPassing book order
   -- which are the files of the good orders: one that holds a good order passes
   pub good-passes : (book order : List ℕ) → Readable book → OrderShaped order → GoodOrder book (orderPairs order)
       → checkOrder book order ≡ gives (orderCount order)

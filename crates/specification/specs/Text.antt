@@ -6,7 +6,8 @@ use lib.ListN.{take, replicate, getD}
 use lib.Dec.{ltb, eqb}
 use Rattle.transport.specs.Problem.{Problem}
 use Rattle.specification.specs.Reply.{Reply, gives, refuses, Verdict, full, short, Outcome}
-use Rattle.specification.specs.Book.{problemOf}
+use Rattle.specification.specs.Book.{largestBook, problemOf}
+use Rattle.specification.specs.Amounts.{largestAmounts}
 use Rattle.specification.specs.Find.{findAndRun, findAndRunFlow}
 
 -- a number in decimal, of at most `most` digits
@@ -48,11 +49,18 @@ textOf (refuses k vs) P flow = line refusedWord (decimal k ∷ [])
 textOf (gives o) P flow =
     line (verdictWord (o .verdict)) (decimal (o .units) ∷ decimal (o .cost) ∷ []) ++ pairLines (P .calls) flow (P .lots * P .calls)
 
--- what the program prints, from the contents of its two files: it reads "at most 4,232 and 264 bytes of each, an absent file counting as
--- empty"; its flow buffer has 1,024 entries, enough for every book
+-- how much it reads of a book and of amounts: "at most 4,232 and 264 bytes of each", one more than the largest file has
+abbrev pub bookMost : ℕ
+bookMost = suc largestBook
+
+abbrev pub amountsMost : ℕ
+amountsMost = suc largestAmounts
+
+-- what the program prints, from the contents of its two files, "an absent file counting as empty"; its flow buffer has 1,024 entries,
+-- enough for every book
 unfoldable pub printed : List ℕ → List ℕ → List ℕ
 printed bookFile amountsFile =
-    let book : List ℕ = take 4232 bookFile in
-    let amounts : List ℕ = take 264 amountsFile in
+    let book : List ℕ = take bookMost bookFile in
+    let amounts : List ℕ = take amountsMost amountsFile in
     let flow : List ℕ = replicate 1024 0 in
     textOf (findAndRun book amounts flow) (problemOf book) (findAndRunFlow book amounts flow)

@@ -21,8 +21,8 @@ stretch : (book : List ℕ) (i at size : ℕ) → at ≡ rowStart book i → siz
     → take ((at + size) - (at + 4)) (drop (at + 4) book) ≡ take (4 * ones (rowWord (rowAt book i))) (drop 4 (rowAt book i))
 stretch book i at size e f =
     let long : (at + size) - (at + 4) ≡ 4 * ones (rowWord (rowAt book i)) = omega arith in
-    let place : drop 4 (rowAt book i) ≡ drop (at + 4) book = rw (row-is, drop-drop, e) in
-    rw (long, place)
+    let follows : drop 4 (rowAt book i) ≡ drop (at + 4) book = rw (row-is, drop-drop, e) in
+    rw (long, follows)
 
 -- the book is readable, and `lots` is its count of lots
 module _ (c : tie.After-known-told) where

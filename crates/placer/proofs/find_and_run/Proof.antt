@@ -7,7 +7,6 @@ use native.Mathlib.Nat.{mul-le-mul}
 use native.Mathlib.Omega.{arith}
 use borrow.Author.Needs.{needs}
 use lib.Seq.{length-take-le}
-use Rattle.transport.proofs.Finder.Same.{size-of-same}
 use Rattle.specification.specs.Reply.{Size, gives, statedCounts}
 use Rattle.specification.specs.Book.{readBook}
 use Rattle.specification.specs.Amounts.{readAmounts}
@@ -15,7 +14,6 @@ use Rattle.specification.specs.Find.{foundToRun, findAndRun, findAndRunFlow}
 use Rattle.specification.proofs.Books.{size-within}
 use Rattle.specification.proofs.AmountsFiles.{book-of-amounts}
 use Rattle.book.proofs.Readable.{Read, counts-are}
-use Rattle.finder.proofs.Books.{states-same, stated}
 use Rattle.run.proofs.Supplied.{sizes-within, too-short, accepted, as-specified}
 use Rattle.specification.proofs.FindRuns.{none-refused}
 use Rattle.placer.proofs.Found.{IsFile, none-found, file-found, file-passes, count-within, runs-file}
@@ -63,34 +61,28 @@ returns-2 c =
     let r = c .before in
     simp (read r, too-short _ (size r) (book-read r) (lent r) (c .if1 .taken)) (refl, search needs)
 
-offsets-requires : tie.Need-offsets-requires
-offsets-requires c κs = (readable (c .before) .is-readable, readable (c .before) .lots-is)
-
 find-by-requires : tie.Need-find-by-requires
 find-by-requires c κs =
-    let o = c .before .before in
-    let known = readable (o .before .before) in (
-      stated _ _ _ _ known (o .offsets .ensures),
-      omega (arith, size-of-same (states-same _ _ _ _ known (o .offsets .ensures)), size-within (known .known)),
-    )
+    let r = c .before .before in
+    (book-read r, omega (arith, size-within (readable r .known)))
 
 -- the search has answered
 module _ (c : tie.After-find-by) where
-  abbrev offered : tie.After-offsets
-  offered = c .before .before .before
+  abbrev fits : tie.Else1
+  fits = c .before .before
 
   abbrev sized : tie.After-known-told
-  sized = offered .before .before
+  sized = fits .before
 
   abbrev left : List ℕ
-  left = c .find-by .last .1 .1 .1 .1 .0
+  left = c .find-by .last .1 .1 .1 .0
 
 returns-3 : tie.Need-returns-3
 returns-3 c =
     let f = c .before .before .before in
     let r = sized f in
-    none-refused _ _ (lent r) (size r) (read r) (offered f .before .if1 .left)
-    (none-found _ _ _ _ _ _ (book-read r) (offered f .offsets .ensures) _ (f .find-by .ensures) (c .enum-told2 .given .1))
+    none-refused _ _ (lent r) (size r) (read r) (fits f .if1 .left)
+    (none-found _ _ _ _ (f .find-by .ensures) (c .enum-told2 .given .1))
 
 remaining-of-requires : tie.Need-remaining-of-requires
 remaining-of-requires c κs = let r = sized (c .before .before .before .before) in sizes-within _ (size r) (book-read r)
@@ -104,8 +96,7 @@ module _ (c : tie.After-known-told2) where
   count = c .before .found .given .0 .0
 
   file : IsFile (book (sized searched)) (left searched) count
-  file = file-found _ _ _ _ _ _ (book-read (sized searched)) (offered searched .offsets .ensures) _ (searched .find-by .ensures) count
-      (c .before .found .given .1)
+  file = file-found _ _ _ _ (searched .find-by .ensures) count (c .before .found .given .1)
 
   few : count ≤ 1024
   few = count-within _ _ count (book-read (sized searched)) file
@@ -128,7 +119,7 @@ run-by-requires c κs =
     let k = t .before in
     let f = searched k in
     let r = sized f in
-    accepted _ (size r) (book-read r) _ _ (lent r) _ (file-passes _ _ _ (book-read r) (file k)) (read r) (offered f .before .if1 .left)
+    accepted _ (size r) (book-read r) _ _ (lent r) _ (file-passes _ _ _ (book-read r) (file k)) (read r) (fits f .if1 .left)
     _ (t .remaining-of .ensures)
 
 returns-4 : tie.Need-returns-4
@@ -138,7 +129,7 @@ returns-4 c =
     let f = searched k in
     let r = sized f in
     let ran = as-specified _ (size r) (book-read r) _ _ (lent r) _ (file-passes _ _ _ (book-read r) (file k)) (read r)
-    (offered f .before .if1 .left) _ (t .remaining-of .ensures) _ _ (c .before .before .run-by .ensures) in
+    (fits f .if1 .left) _ (t .remaining-of .ensures) _ _ (c .before .before .run-by .ensures) in
     let same = runs-file _ _ (count k) (book-read r) (file k) _ _ in
     (ran .0 ∙ sym (same .0), ran .1 ∙ sym (same .1))
 
@@ -153,7 +144,6 @@ find-and-run-spec =
     returns
     mul-if1
     returns-2
-    offsets-requires
     (λ c. search needs)
     find-by-requires
     (λ c. search needs)

@@ -1,21 +1,20 @@
 -- `free` by two tests, where the costs are Monge by ranks. For a lot k of higher rank than i and a call l of higher rank than j, or both
 -- lower, (i, j) fits with (k, l) by the ranks alone. For k higher and l lower it fits exactly when the excess of that rectangle, which is
 -- never negative, is 0; a wider rectangle has no less, so the widest decides: to the last lot of the call and the first call of the lot.
--- So for k lower and l higher. A pair taken changes the answer for another pair only if it was an end of that pair's lot or call.
+-- So for k lower and l higher.
 use mathlib.Core.Path.{_≡_, subst⁻¹}
 use mathlib.Core.Logic.{_↔_, by-cases}
 use mathlib.Core.Bool.{Bool, _&&_}
-use Prim.Native.Nat.{ℕ, _+_, _-_, _≤_, _<_}
+use Prim.Native.Nat.{ℕ, _+_, _≤_, _<_}
 use native.Mathlib.Decide.{decLe, decLt}
 use native.Mathlib.Omega.{arith}
 use lib.Dec.{T}
 use Rattle.transport.specs.Problem.{Problem}
-use Rattle.transport.specs.Greedy.{Pair}
-use Rattle.transport.specs.Finder.{fits, free, without}
-use Rattle.transport.proofs.Laws.Tests.{T-ext, and-says, and-of, same→eq}
-use Rattle.transport.proofs.Laws.Sets.{Remains, without-of, without-says}
+use Rattle.transport.specs.Finder.{fits, free}
+use Rattle.transport.proofs.Laws.Tests.{T-ext, and-says, and-of}
+use Rattle.transport.proofs.Laws.Sets.{Remains}
 use Rattle.transport.proofs.Orders.Monge.{Fits}
-use Rattle.transport.proofs.Finder.Free.{Free, fits-says, fits-of, free-says, free-of, free-of-fewer}
+use Rattle.transport.proofs.Finder.Free.{Free, fits-says, fits-of, free-says, free-of}
 use Rattle.transport.proofs.Finder.Ranks.{Renames, Ranked, ranked-fits}
 
 -- of the numbers that are in a set, the one of least rank and the one of greatest
@@ -24,15 +23,6 @@ pub record Ends (rank : ℕ → ℕ) (In : ℕ → Type 0) (low high : ℕ) : Ty
   pub high-in : In high
   pub least : (k : ℕ) → In k → rank low ≤ rank k
   pub greatest : (k : ℕ) → In k → rank k ≤ rank high
-
-ends-of-fewer : {rank : ℕ → ℕ} {In Fewer : ℕ → Type 0} {low high : ℕ} → Ends rank In low high → ((k : ℕ) → Fewer k → In k)
-    → Fewer low → Fewer high → Ends rank Fewer low high
-ends-of-fewer ends among low high = record {
-  low-in = low;
-  high-in = high;
-  least = λ k f. ends .least k (among k f);
-  greatest = λ k f. ends .greatest k (among k f);
-}
 
 -- the numbers below n listed by rank: the ends are the first and the last of the list that are in the set
 pub ends-by-rank : {n : ℕ} {rank at : ℕ → ℕ} → Renames n rank at → {In : ℕ → Type 0} → ((k : ℕ) → In k → k < n)
@@ -51,13 +41,6 @@ ends-by-rank {n} {rank} {at} names {In} below {low} {high} hl hh low-in high-in 
   where
     back : (k : ℕ) → In k → In (at (rank k))
     back k in-k = subst⁻¹ In (names .at-rank k (below k in-k)) in-k
-
--- so of all the numbers below n
-pub ends-of-all : {n : ℕ} {rank at : ℕ → ℕ} → Renames n rank at → {In : ℕ → Type 0} → ((k : ℕ) → In k → k < n)
-    → ((k : ℕ) → k < n → In k) → 0 < n → Ends rank In (at 0) (at (n - 1))
-ends-of-all {n} {rank} {at} names {In} below all pos = ends-by-rank names below pos (omega arith)
-    (all (at 0) (names .at-below 0 pos)) (all (at (n - 1)) (names .at-below (n - 1) (omega arith)))
-    (λ q h in-q. omega arith) (λ q h g in-q. omega arith)
 
 -- the ends of a lot are calls, of a call lots
 abbrev pub LotEnds : Problem → (ℕ → ℕ) → (ℕ → ℕ → Bool) → ℕ → ℕ → ℕ → Type 0
@@ -96,7 +79,7 @@ module _ {P : Problem} {r s : ℕ → ℕ} (ranked : Ranked P r s) (rest : ℕ �
       )
 
   -- the two corners: (i, j) is free exactly when it fits with the last lot and first call, and with the first lot and last call
-  pub free-iff-corners : Free P rest i j ↔ (Fits P i j bottom first × Fits P i j top last)
+  free-iff-corners : Free P rest i j ↔ (Fits P i j bottom first × Fits P i j top last)
   free-iff-corners = (
     λ f. (f bottom first (row .low-in) (column .high-in), f top last (row .high-in) (column .low-in)),
     λ (low, high) k l il kj. record {
@@ -118,57 +101,3 @@ module _ {P : Problem} {r s : ℕ → ℕ} (ranked : Ranked P r s) (rest : ℕ �
           let (low, high) = and-says (fits P i j bottom first) (fits P i j top last) t in
           free-of P rest i j (row .low-in .0) (column .low-in .1)
           (free-iff-corners .1 (fits-says P i j bottom first low, fits-says P i j top last high))
-
--- the tests say the same where the statements do
-free-same : (P : Problem) (rest other : ℕ → ℕ → Bool) (i j : ℕ) → i < P .lots → j < P .calls
-    → Free P rest i j ↔ Free P other i j → free P rest i j ≡ free P other i j
-free-same P rest other i j hi hj (to, from) = T-ext (free P rest i j) (free P other i j)
-    (λ t. free-of P other i j hi hj (to (free-says P rest i j t)))
-    (λ t. free-of P rest i j hi hj (from (free-says P other i j t)))
-
--- (i, j) is not the pair p
-abbrev pub Other : Pair → ℕ → ℕ → Type 0
-Other p i j = (i ≡ p .lot) × (j ≡ p .call) → ⊥
-
--- in every problem, a pair taken leaves free what is free, and changes nothing at a pair of another lot and another call
-module _ (P : Problem) (rest : ℕ → ℕ → Bool) (p : Pair) where
-  pub stays-in : (i j : ℕ) → Remains P rest i j → Other p i j → Remains P (without rest p) i j
-  stays-in i j ij other = without-of P rest p i j ij (λ t. other (same→eq i j p t))
-
-  pub free-stays : (i j : ℕ) → Free P rest i j → Free P (without rest p) i j
-  free-stays i j = free-of-fewer P (without rest p) rest i j (λ k l w. without-says P rest p k l w .0 .2)
-
-  pub free-elsewhere : (i j : ℕ) → (i ≡ p .lot → ⊥) → (j ≡ p .call → ⊥) → Free P (without rest p) i j ↔ Free P rest i j
-  free-elsewhere i j lot call =
-      (λ f k l il kj. f k l (stays-in i l il (λ e. lot (e .0))) (stays-in k j kj (λ e. call (e .1))), free-stays i j)
-
-  pub free-same-elsewhere : (i j : ℕ) → i < P .lots → j < P .calls → (i ≡ p .lot → ⊥) → (j ≡ p .call → ⊥)
-      → free P (without rest p) i j ≡ free P rest i j
-  free-same-elsewhere i j hi hj lot call = free-same P (without rest p) rest i j hi hj (free-elsewhere i j lot call)
-
-  -- the ends of a lot or a call stay its ends, unless they are taken
-  pub lot-ends-stay : {s : ℕ → ℕ} {i first last : ℕ} → Other p i first → Other p i last
-      → LotEnds P s rest i first last → LotEnds P s (without rest p) i first last
-  lot-ends-stay {s} {i} {first} {last} not-first not-last ends = ends-of-fewer ends (λ l w. without-says P rest p i l w .0)
-      (stays-in i first (ends .low-in) not-first) (stays-in i last (ends .high-in) not-last)
-
-  pub call-ends-stay : {r : ℕ → ℕ} {j top bottom : ℕ} → Other p top j → Other p bottom j
-      → CallEnds P r rest j top bottom → CallEnds P r (without rest p) j top bottom
-  call-ends-stay {r} {j} {top} {bottom} not-top not-bottom ends = ends-of-fewer ends (λ k w. without-says P rest p k j w .0)
-      (stays-in top j (ends .low-in) not-top) (stays-in bottom j (ends .high-in) not-bottom)
-
--- where the costs are Monge by ranks, it changes nothing at (i, j) unless it is one of the two ends of lot i or of call j
-module _ {P : Problem} {r s : ℕ → ℕ} (ranked : Ranked P r s) (rest : ℕ → ℕ → Bool) (p : Pair) (i j first last top bottom : ℕ)
-    (row : LotEnds P s rest i first last) (column : CallEnds P r rest j top bottom)
-    (not-first : Other p i first) (not-last : Other p i last) (not-top : Other p top j) (not-bottom : Other p bottom j) where
-  pub free-unless-end : Free P (without rest p) i j ↔ Free P rest i j
-  free-unless-end = (
-    λ f. free-iff-corners ranked rest i j first last top bottom row column .1 (
-      f bottom first (stays-in P rest p i first (row .low-in) not-first) (stays-in P rest p bottom j (column .high-in) not-bottom),
-      f top last (stays-in P rest p i last (row .high-in) not-last) (stays-in P rest p top j (column .low-in) not-top),
-    ),
-    free-stays P rest p i j,
-  )
-
-  pub free-same-unless-end : free P (without rest p) i j ≡ free P rest i j
-  free-same-unless-end = free-same P (without rest p) rest i j (row .low-in .0) (column .low-in .1) free-unless-end

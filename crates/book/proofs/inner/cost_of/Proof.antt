@@ -1,4 +1,4 @@
--- `book::inner::cost_of` meets its contract: an entry of the table is a place that the book has.
+-- `book::inner::cost_of` meets its contract: from each entry of the table on the book has four bytes.
 use borrow.Author.Needs.{needs}
 use Prim.Native.Nat.{_+_, _*_}
 use native.Mathlib.Omega.{arith}

@@ -1,4 +1,4 @@
--- `book::inner::enter_first` meets its contract. The invariant: lot i's calls below j are entered, and `next` is the place of the next cost.
+-- `book::inner::enter_first` meets its contract. The invariant: lot i's calls below j are entered, and `next` is the offset of the next cost.
 use mathlib.Core.Path.{_≡_}
 use mathlib.Core.Bool.{true}
 use Prim.Native.Nat.{_+_, _*_, _-_, _≤_}

@@ -1,4 +1,4 @@
--- `book::inner::enter_row` meets its contract: a word below the power of two of its count has no gap.
+-- `book::inner::enter_row` meets its contract: the set bits of a word below the power of two of its count are the lowest.
 use borrow.Author.Needs.{needs}
 use borrow.Author.Tests.{leb-false}
 use mathlib.Core.Path.{sym, _∙_}
@@ -12,8 +12,8 @@ enter-first-requires c κs =
     let r = c .before .before in
     let pre = r .before .before .pre in
     let word = r .before .before .args .word in
-    let no-gap = rw (r .before .count .ensures) at (sym (r .reaches .ensures) ∙ c .before .if1 .left) in
-    (pre .0, pre .1, pre .2, leb-false (2 ^ ones word) word no-gap)
+    let lowest = rw (r .before .count .ensures) at (sym (r .reaches .ensures) ∙ c .before .if1 .left) in
+    (pre .0, pre .1, pre .2, leb-false (2 ^ ones word) word lowest)
 
 pub enter-row-spec : {M : Type 1} → statement M
 enter-row-spec =

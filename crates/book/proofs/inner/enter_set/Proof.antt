@@ -1,12 +1,11 @@
--- `book::inner::enter_set` meets its contract. The invariant: lot i's calls below j are entered, `next` is the place of the next cost, and bit j is
+-- `book::inner::enter_set` meets its contract. The invariant: lot i's calls below j are entered, `next` is the offset of the next cost, and bit j is
 -- set, or j is 32. A turn enters call j and passes over the clear bits after it.
 use mathlib.Core.Path.{_≡_}
 use mathlib.Core.Bool.{true}
-use Prim.Native.Nat.{_+_, _-_, _≤_, _<_}
+use Prim.Native.Nat.{_-_, _≤_, _<_}
 use native.Mathlib.Omega.{arith}
 use Rattle.specification.specs.Book.{bit}
 use Rattle.book.specs.Pairs.{onesBelow}
-use Rattle.book.specs.Table.{SetFrom}
 use Rattle.book.proofs.Bits.{ones-below-le}
 use Rattle.book.proofs.Entering.{Entered, entered-none, entered-set, entered-to, entered-all}
 use Rattle.book.proofs.inner.enter_set.Statement.{statement}

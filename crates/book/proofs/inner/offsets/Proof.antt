@@ -5,7 +5,7 @@ use mathlib.Core.List.{List}
 use Prim.Native.Nat.{ℕ, _+_, _-_, _≤_, _<_}
 use native.Mathlib.Omega.{arith}
 use lib.ListN.{length}
-use Rattle.specification.specs.Book.{rowSize, bookLots, rowAt}
+use Rattle.specification.specs.Book.{largestBook, rowSize, bookLots, rowAt}
 use Rattle.specification.proofs.Books.{BookRead, book-length}
 use Rattle.book.specs.Pairs.{rowStart}
 use Rattle.book.proofs.Filled.{Filled, filled-none, filled-next, filled-all}
@@ -43,7 +43,7 @@ module _ (c : tie.In-loop Inv-loop μ-loop) where
   inside : loop .loop .at + rowSize (rowAt book (loop .loop .i)) ≤ length book
   inside = omega (arith, loop .loop .inv .1, row-inside read (loop .loop .i) in-book)
 
-  short : length book ≤ 4231
+  short : length book ≤ largestBook
   short = book-length read
 
 loop-holds : tie.Need-loop-holds Inv-loop μ-loop

@@ -1,4 +1,4 @@
--- `book::row::cost_in` meets its contract: a count of set bits is at most 32, so that the place does not wrap.
+-- `book::row::cost_in` meets its contract: a count of set bits is at most 32, so that the offset does not wrap.
 use borrow.Author.Needs.{needs}
 use native.Mathlib.Omega.{arith}
 use Prim.Native.Nat.{_≤_}

@@ -1,4 +1,4 @@
--- `book::row::first_above` meets its contract. The invariant: `at` is the place of the next cost, and reading all costs replies what reading
+-- `book::row::first_above` meets its contract. The invariant: `at` is the offset of the next cost, and reading all costs replies what reading
 -- those of the calls not yet passed does.
 use borrow.Author.Tests.{lt-ltb, le-ltb}
 use mathlib.Core.Path.{_≡_, sym, ap, _∙_}
@@ -65,7 +65,7 @@ module _ (c : tie.After-is-set Inv-loop μ-loop) where
   high-is : {cost : ℕ} → c .is-set .result ≡ true → cost ≡ u32At row (loop .loop .at) → costLimit < cost → high ≡ true
   high-is e q h = rw (set-is e, lt-ltb _ _ (rw (cost-is q) at h))
 
-  -- the place of the next cost, once this call is passed, and that the call's own cost is within the limit
+  -- the offset of the next cost, once this call is passed, and that the call's own cost is within the limit
   abbrev Passed : ℕ → Type 0
   Passed at = (at ≡ 4 + 4 * onesBelow (rowWord row) (loop .loop .j + 1)) × (high ≡ false)
 

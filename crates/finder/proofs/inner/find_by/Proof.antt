@@ -1,4 +1,4 @@
--- `finder::inner::find_by` meets its contract: the table of slacks states the same problem, so the same order is found.
+-- `finder::inner::find_by` meets its contract: the table of slacks states the book's problem, so the same order is found.
 use borrow.Author.Needs.{needs}
 use mathlib.Core.Path.{refl}
 use native.Mathlib.Omega.{arith}

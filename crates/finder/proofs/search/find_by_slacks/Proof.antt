@@ -2,25 +2,25 @@
 use borrow.Author.Needs.{needs}
 use native.Mathlib.Omega.{arith}
 use Rattle.transport.specs.Finder.{find}
-use Rattle.finder.specs.Slacks.{bySlacks}
+use Rattle.slacks.specs.Slacks.{bySlacks}
 use Rattle.finder.proofs.Turns.{size-few}
 use Rattle.finder.proofs.Writes.{counts-found, orders-found, orders-none}
 use Rattle.finder.proofs.search.find_by_slacks.Statement.{statement}
 use Rattle.finder.proofs.search.find_by_slacks.Tie as tie
 
-find-pairs-requires : tie.Need-find-pairs-requires
-find-pairs-requires c κs = let p = c .before .before .pre in (p .0, p .1, omega arith)
+find-any-requires : tie.Need-find-any-requires
+find-any-requires c κs = let p = c .before .before .pre in (p .0, p .1, omega arith)
 
 returns : tie.Need-returns
 returns c =
     let a = c .before .before .before .before .before .before .args in
-    orders-none (find (bySlacks (a .slacks .now) (a .n) (a .m))) _ _ (a .buffer .now) (c .enum-told .given .1) (c .before .before .before .find-pairs .ensures)
+    orders-none (find (bySlacks (a .slacks .now) (a .n) (a .m))) _ _ (a .buffer .now) (c .enum-told .given .1) (c .before .before .before .find-any .ensures)
 
 write-order-requires : tie.Need-write-order-requires
 write-order-requires c κs =
     let a = c .before .before .before .before .before .before .before .before .before .args in
     let p = c .before .before .before .before .before .before .before .before .before .pre in
-    let f = c .before .before .before .before .before .before .find-pairs in
+    let f = c .before .before .before .before .before .before .find-any in
     let e = counts-found (bySlacks (a .slacks .now) (a .n) (a .m)) _ _ _ (c .before .before .before .found .given .1) (f .ensures) in
     let few = size-few (a .slacks .now) (a .n) (a .m) (p .0) in
     (omega arith, omega (arith, f .kept .1 .1 .1 .1 .0), omega (arith, p .1, p .2))
@@ -29,14 +29,14 @@ returns-2 : tie.Need-returns-2
 returns-2 c =
     let a = c .before .before .before .before .before .before .before .before .before .before .before .before .args in
     orders-found (find (bySlacks (a .slacks .now) (a .n) (a .m))) _ _ _ (a .buffer .now) _ (c .before .before .before .before .before .before .found .given .1)
-    (c .before .before .before .before .before .before .before .before .before .find-pairs .ensures) (c .before .before .write-order .ensures)
+    (c .before .before .before .before .before .before .before .before .before .find-any .ensures) (c .before .before .write-order .ensures)
 
 pub find-by-slacks-spec : {M : Type 1} → statement M
 find-by-slacks-spec =
     tie.close
     (tie.spec
     (λ c. search needs)
-    find-pairs-requires
+    find-any-requires
     (λ c. search needs)
     (λ c. search needs)
     returns

@@ -1,129 +1,102 @@
 -- `finder::search::find_pairs` meets its contract. The invariant: what is taken, with its bytes (`Going`), and all that is kept (`Holding`).
-use mathlib.Core.Path.{_≡_, refl, _∙_}
-use mathlib.Core.Option.{some}
-use Prim.Native.Nat.{_-_, _<_}
+use borrow.Author.Needs.{needs}
+use mathlib.Core.Path.{_≡_, refl, _∙_, subst}
+use Prim.Native.Nat.{_-_}
 use native.Mathlib.Omega.{arith}
 use lib.ListN.{length}
-use Rattle.transport.specs.Finder.{next}
-use Rattle.finder.specs.Slacks.{remains, bySlacks}
+use Rattle.slacks.specs.Slacks.{bySlacks}
+use Rattle.finder.specs.Words.{isLeft}
+use Rattle.finder.specs.Waiting.{NextIs}
 use Rattle.finder.specs.Work.{Holding}
-use Rattle.finder.proofs.Passing.{placed, next-of-first, none-of-first}
-use Rattle.finder.proofs.Turns.{ends-first, holding-first, going-first, gone-agrees}
-use Rattle.finder.proofs.Going.{Going, going-stop, going-done, going-next}
+use Rattle.finder.proofs.Taking.{holding-then}
+use Rattle.finder.proofs.Passing.{next-of-pair, none-of-nothing}
+use Rattle.finder.proofs.Turns.{holding-first, going-first, gone-agrees}
+use Rattle.slacks.proofs.Going.{Going, going-stop, going-done, going-next}
 use Rattle.finder.proofs.search.find_pairs.Statement.{statement}
 use Rattle.finder.proofs.search.find_pairs.Tie as tie
 
 abbrev Inv-loop : tie.InvT-loop
-Inv-loop slacks n m total pairs₀ least₀ tails₀ waits₀ lefts₀ live₀ asks₀ count₀ pairs least tails waits lefts live asks count =
-    (length pairs ≡ length pairs₀) × Going (bySlacks slacks n m) (remains live) pairs count total
-    × Holding slacks n live tails least waits asks lefts
+Inv-loop slacks n m total pairs₀ lefts₀ holders₀ eligible asks₀ least₀ worked₀ waits₀ count₀ pairs lefts holders asks least worked waits count =
+    (length pairs ≡ length pairs₀) × Going (bySlacks slacks n m) (isLeft lefts) pairs count total
+    × Holding slacks eligible lefts holders least worked waits asks
 
 abbrev μ-loop : tie.MeasureT-loop
-μ-loop slacks n m total pairs₀ least₀ tails₀ waits₀ lefts₀ live₀ asks₀ count₀ pairs least tails waits lefts live asks count = total - count
+μ-loop slacks n m total pairs₀ lefts₀ holders₀ eligible asks₀ least₀ worked₀ waits₀ count₀ pairs lefts holders asks least worked waits count = total - count
 
--- the place that was found is that of the next pair
-module _ (c : tie.Else1 Inv-loop μ-loop) where
-  abbrev top : tie.At-loop Inv-loop μ-loop
-  top = c .before .before .before .before .before .before .before
-
-  abbrev start : tie.Start Inv-loop μ-loop
-  start = c .before .before .before .before .before .before .before .before .before .before .before .before .before .before .before .before
-
-  more : top .loop .count < start .args .total
-  more = c .before .before .before .before .before .before .loop-test .taken
-
-  place-in : c .before .first-pair .result < 1024
-  place-in = omega (arith, c .before .first-pair .ensures .0 .within, c .if1 .left)
-
-  is-next : next (bySlacks (start .args .slacks .now) (start .args .n) (start .args .m)) (remains (top .loop .live)) ≡ some (placed (c .before .first-pair .result))
-  is-next = next-of-first _ _ _ (start .pre .0) _ _ _ _ _ _ (top .loop .inv .2) _ (c .before .first-pair .ensures .0) place-in
-
-fill-lefts-requires : tie.Need-fill-lefts-requires Inv-loop μ-loop
-fill-lefts-requires c κs = (c .before .before .before .pre .0, refl)
-
-fill-rows-requires : tie.Need-fill-rows-requires Inv-loop μ-loop
-fill-rows-requires c κs = let r = c .before .before .before .before .before .before .before .pre .0 in (r .lots-few, r .capped, ends-first _ (r .lots-few), refl, refl)
+fill-words-requires : tie.Need-fill-words-requires Inv-loop μ-loop
+fill-words-requires c κs = (c .before .before .before .pre .0, refl, refl)
 
 loop-holds : tie.Need-loop-holds Inv-loop μ-loop
 loop-holds c =
-    let a = c .before .before .before .before .before .before .before .before .args in
-    let p = c .before .before .before .before .before .before .before .before .pre in (
+    let a = c .before .before .before .before .args in
+    let p = c .before .before .before .before .pre in
+    let w = c .fill-words .ensures in (
       refl,
-      going-first (a .slacks .now) (a .n) (a .m) (p .0) _ _ (p .1),
-      holding-first (a .slacks .now) (a .n) (a .m) (p .0) _ _ _ (c .fill-rows .ensures) (c .before .before .before .before .fill-lefts .ensures),
+      going-first (a .slacks .now) (a .n) (a .m) (p .0) _ _ (w .0) (w .1) _ _ (p .1),
+      holding-first (a .slacks .now) (a .n) (a .m) (p .0) _ _ (w .0) (w .1),
     )
 
 first-pair-requires : tie.Need-first-pair-requires Inv-loop μ-loop
-first-pair-requires c κs =
-    let h = c .before .before .before .before .before .loop .inv .2 in
-    ((c .before .before .before .before .before .before .before .before .before .before .before .before .before .before .pre .0 .lots-few, h .capped), h .marks-hold)
+first-pair-requires c κs = (c .before .before .before .before .before .before .before .before .before .before .before .before .before .pre .0 .lots-few, c .before .before .before .before .before .before .before .before .loop .inv .2)
 
 same-length : tie.Need-same-length Inv-loop μ-loop
-same-length c = c .before .before .before .before .before .before .before .loop .inv .0
+same-length c = c .before .before .before .before .before .before .before .before .before .before .before .loop .inv .0
 
 returns : tie.Need-returns Inv-loop μ-loop
 returns c =
-    let start = c .before .before .before .before .before .before .before .before .before .before .before .before .before .before .before .before in
-    let a = start .args in
-    let r = start .pre .0 in
-    let inv = c .before .before .before .before .before .before .before .loop .inv in
-    going-stop (inv .1) (c .before .before .before .before .before .before .loop-test .taken)
-    (none-of-first (a .slacks .now) (a .n) (a .m) r _ _ _ _ _ _ (inv .2) _ (c .before .first-pair .ensures .0) (c .if1 .taken))
-
-cast-take-pair : tie.Need-cast-take-pair Inv-loop μ-loop
-cast-take-pair c = omega (arith, place-in c)
+    let a = c .before .before .before .before .before .before .before .before .before .before .before .before .before .before .before .before .args in
+    let inv = c .before .before .before .before .before .before .before .before .before .before .before .loop .inv in
+    let h = inv .2 in
+    going-stop (inv .1) (c .before .before .before .before .before .before .before .before .before .before .loop-test .taken) (none-of-nothing (a .slacks .now) (a .n) (a .m) (c .before .before .before .before .before .before .before .before .before .before .before .before .before .before .before .before .pre .0) _ _ _ (c .before .before .before .before .before .before .before .before .before .before .before .before .fill-words .ensures .0) (h .words-hold)
+    (subst (NextIs (a .slacks .now) _ _ (a .n)) (c .enum-told .given .1) (c .before .before .first-pair .ensures .0)))
 
 take-pair-requires : tie.Need-take-pair-requires Inv-loop μ-loop
 take-pair-requires c κs =
-    let found = c .before .before .before .before .before .before in
-    let r = start found .pre .0 in
-    let h = top found .loop .inv .2 in
-    let e = c .before .before .before .before .before .before .before .first-pair .ensures in
-    let place = place-in found in (
-      (r .lots-few, r .capped, place, e .0 .passes place .0),
-      record {
-        live-holds = h .live-holds;
-        capped = h .capped;
-        live-long = h .live-long;
-        rows-hold = h .rows-hold;
-        marks-hold = e .1;
-        lefts-hold = h .lefts-hold;
-      },
-    )
+    let few = c .before .before .before .before .before .before .before .before .before .before .before .before .before .before .before .before .before .before .before .before .before .pre .0 .lots-few in
+    let h = c .before .before .before .before .before .before .before .first-pair .ensures .1 in
+    let f = subst (NextIs _ _ _ _) (c .before .before .before .before .before .next .given .1) (c .before .before .before .before .before .before .before .first-pair .ensures .0) in
+    record {
+      lot-in = omega (arith, f .lot-in, few);
+      call-in = f .call-in;
+      lefts-long = h .words-hold .lefts-long;
+      holders-long = h .words-hold .holders-long;
+      waits-long = h .marks-hold .waits-hold .long;
+      asks-long = h .marks-hold .asks-hold .long;
+    }
 
 put-requires : tie.Need-put-requires Inv-loop μ-loop
 put-requires c κs =
-    let found = c .before .before .before .before .before .before .before .before in
-    let inv = top found .loop .inv in
-    (omega (arith, place-in found), omega arith, omega (arith, inv .1 .few, more found), omega (arith, inv .0, start found .pre .2))
+    let few = c .before .before .before .before .before .before .before .before .before .before .before .before .before .before .before .before .before .before .before .before .before .before .before .pre .0 .lots-few in
+    let inv = c .before .before .before .before .before .before .before .before .before .before .before .before .before .before .before .before .before .before .loop .inv in
+    let f = subst (NextIs _ _ _ _) (c .before .before .before .before .before .before .before .next .given .1) (c .before .before .before .before .before .before .before .before .before .first-pair .ensures .0) in
+    (omega (arith, f .lot-in, few), f .call-in, omega (arith, inv .1 .few, c .before .before .before .before .before .before .before .before .before .before .before .before .before .before .before .before .before .loop-test .taken), omega (arith, inv .0, c .before .before .before .before .before .before .before .before .before .before .before .before .before .before .before .before .before .before .before .before .before .before .before .pre .2))
 
 add-count : tie.Need-add-count Inv-loop μ-loop
-add-count c = let found = c .before .before .before .before .before .before .before .before .before .before .before in omega (arith, top found .loop .inv .1 .few, more found)
+add-count c = omega (arith, c .before .before .before .before .before .before .before .before .before .before .before .before .before .before .before .before .before .before .before .before .before .loop .inv .1 .few, c .before .before .before .before .before .before .before .before .before .before .before .before .before .before .before .before .before .before .before .before .loop-test .taken)
 
 loop-less : tie.Need-loop-less Inv-loop μ-loop
-loop-less c = omega (arith, more (c .before .before .before .before .before .before .before .before .before .before .before))
+loop-less c = omega (arith, c .before .before .before .before .before .before .before .before .before .before .before .before .before .before .before .before .before .before .before .before .loop-test .taken)
 
 loop-again : tie.Need-loop-again Inv-loop μ-loop
 loop-again c =
-    let found = c .before .before .before .before .before .before .before .before .before .before .before in
-    let a = start found .args in
-    let inv = top found .loop .inv in
+    let a = c .before .before .before .before .before .before .before .before .before .before .before .before .before .before .before .before .before .before .before .before .before .before .before .before .before .before .args in
+    let r = c .before .before .before .before .before .before .before .before .before .before .before .before .before .before .before .before .before .before .before .before .before .before .before .before .before .before .pre .0 in
+    let inv = c .before .before .before .before .before .before .before .before .before .before .before .before .before .before .before .before .before .before .before .before .before .loop .inv in
+    let h = inv .2 in
+    let g = c .before .before .before .before .before .before .before .before .before .before .before .before .before .before .before .before .before .before .before .before .before .before .fill-words .ensures .0 in
+    let f = subst (NextIs _ _ _ _) (c .before .before .before .before .before .before .before .before .before .before .next .given .1) (c .before .before .before .before .before .before .before .before .before .before .before .before .first-pair .ensures .0) in
     let t = c .before .before .before .before .take-pair .ensures in (
       c .before .before .put .kept .0 ∙ inv .0,
-      going-next (inv .1) (more found) _ (is-next found) _
-          (gone-agrees (a .slacks .now) (a .n) (a .m) (start found .pre .0) (top found .loop .live) (inv .2 .live-long) _ (place-in found) _ (t .0)) _
-          (c .before .before .put .ensures),
-      t .1,
+      going-next (inv .1) (c .before .before .before .before .before .before .before .before .before .before .before .before .before .before .before .before .before .before .before .before .loop-test .taken) _ (next-of-pair (a .slacks .now) (a .n) (a .m) r _ _ _ g (h .words-hold) _ _ f) _
+          (gone-agrees (a .slacks .now) (a .n) (a .m) r _ _ _ _ (t .from-lot)) _ (c .before .before .put .ensures),
+      holding-then (a .slacks .now) _ _ _ _ _ _ _ (c .before .before .before .before .before .before .before .before .before .before .before .before .first-pair .ensures .1) _ _ (omega (arith, f .lot-in, r .lots-few)) (f .call-in) _ _ _ _ t,
     )
 
 same-length-2 : tie.Need-same-length-2 Inv-loop μ-loop
 same-length-2 c = c .before .loop .inv .0
 
 returns-2 : tie.Need-returns-2 Inv-loop μ-loop
-returns-2 c =
-    let a = c .before .before .before .before .before .before .before .before .before .before .args in
-    let r = c .before .before .before .before .before .before .before .before .before .before .pre .0 in
-    going-done (c .before .loop .inv .1) (c .loop-test .left)
+returns-2 c = going-done (c .before .loop .inv .1) (c .loop-test .left)
 
 pub find-pairs-spec : {M : Type 1} → statement M
 find-pairs-spec =
@@ -131,13 +104,13 @@ find-pairs-spec =
     (tie.spec
     Inv-loop
     μ-loop
-    fill-lefts-requires
-    fill-rows-requires
+    fill-words-requires
     loop-holds
     first-pair-requires
+    (λ c. search needs)
+    (λ c. search needs)
     same-length
     returns
-    cast-take-pair
     take-pair-requires
     put-requires
     add-count

@@ -1,35 +1,18 @@
--- `finder::search::take_pair` meets its contract. All that is kept is kept of what remains then (`holding-then`).
+-- `finder::search::take_pair` meets its contract (`taken-of`).
 use borrow.Author.Needs.{needs}
-use mathlib.Core.Path.{refl}
-use Prim.Native.Nat.{_/_, _%_}
 use native.Mathlib.Omega.{arith}
-use lib.ListN.{getD}
-use Rattle.finder.proofs.Taking.{begun-then, holding-then}
+use Rattle.finder.proofs.Asking.{taken-of}
 use Rattle.finder.proofs.search.take_pair.Statement.{statement}
 use Rattle.finder.proofs.search.take_pair.Tie as tie
 
-row-from-requires : tie.Need-row-from-requires
-row-from-requires c κs =
-    let a = c .before .before .before .before .before .args in
-    let p = c .before .before .before .before .before .pre in
-    let h = p .1 in (
-      (p .0 .0, omega arith, h .rows-hold .tails-long, h .rows-hold .least-long, p .0 .1),
-      begun-then (a .slacks .now) (a .n) (getD (a .lefts .now) (a .x / 32) 0) (a .x / 32) (a .x % 32) _ (c .before .before .before .without .ensures) _ _
-          (h .rows-hold .stand (a .x / 32) (p .0 .3)) (c .before .before .above .ensures),
-    )
-
-ask-again-requires : tie.Need-ask-again-requires
-ask-again-requires c κs = let p = c .before .before .before .before .before .before .before .pre in (p .0 .0, p .0 .3, omega arith, p .1 .marks-hold .asks-hold .long)
-
 returns : tie.Need-returns
 returns c =
-    let a = c .before .before .before .before .before .before .before .before .args in
-    let p = c .before .before .before .before .before .before .before .before .pre in
-    let rows = c .before .before .row-from .ensures in
-    let r = c .ask-again .ensures in (
-      refl,
-      holding-then (a .slacks .now) (a .n) (p .0 .0) _ _ _ _ _ _ (p .1) (a .x) (p .0 .2) (p .0 .3) _ (c .before .before .before .before .before .before .without .ensures) _ _ rows _ (r .0) (r .1),
-    )
+    let a = c .before .before .before .before .before .before .before .args in
+    let p = c .before .before .before .before .before .before .before .pre in
+    let r = c .ask-again .ensures in
+    taken-of (a .lot .0) (a .call .0) _ _ _ _ _ _ _ (omega (arith, p .lot-in, p .lefts-long)) (omega (arith, p .call-in, p .holders-long))
+    (omega (arith, p .lot-in, r .long, p .asks-long)) (c .before .before .before .before .before .without .ensures)
+    (c .before .before .before .without2 .ensures) r
 
 pub take-pair-spec : {M : Type 1} → statement M
 take-pair-spec =
@@ -37,7 +20,12 @@ take-pair-spec =
     (tie.spec
     (λ c. search needs)
     (λ c. search needs)
+    (λ c κs. search needs)
     (λ c. search needs)
+    (λ c. search needs)
+    (λ c. search needs)
+    (λ c. search needs)
+    (λ c κs. search needs)
     (λ c. search needs)
     (λ c. search needs)
     (λ c. search needs)
@@ -46,7 +34,4 @@ take-pair-spec =
     (λ c κs. search needs)
     (λ c. search needs)
     (λ c. search needs)
-    (λ c κs. search needs)
-    row-from-requires
-    ask-again-requires
     returns)

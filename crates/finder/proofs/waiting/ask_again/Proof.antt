@@ -1,37 +1,31 @@
--- `finder::waiting::ask_again` meets its contract. The invariant: the lots passed have the call in their words as `including_if` says, and the
--- others are as they were.
+-- `finder::waiting::ask_again` meets its contract. The invariant: the lots passed have the call in their words as `including_if` says.
 use mathlib.Core.Path.{_≡_}
-use Prim.Native.Nat.{_-_, _≤_}
+use Prim.Native.Nat.{_+_, _-_, _≤_}
 use native.Mathlib.Omega.{arith}
-use lib.Seq.{getD-set-same}
-use Rattle.finder.specs.Waiting.{Asked}
-use Rattle.finder.proofs.Asking.{asked-none, asked-more, asked-own}
+use lib.Dec.{eqb}
+use Rattle.book.specs.Table.{entry}
+use Rattle.finder.specs.Words.{Included}
+use Rattle.finder.proofs.Asking.{included-none, included-more}
 use Rattle.finder.proofs.waiting.ask_again.Statement.{statement}
 use Rattle.finder.proofs.waiting.ask_again.Tie as tie
 
 abbrev Inv-loop : tie.InvT-loop
-Inv-loop waits n left asks₀ i j taken k₀ asks k =
-    (k ≤ n) × Asked waits k i j asks₀ asks
+Inv-loop waits asks₀ i j taken k₀ asks k =
+    (k ≤ 32) × Included (λ a. eqb (entry waits j a) (i + 1)) k j asks₀ asks
 
 abbrev μ-loop : tie.MeasureT-loop
-μ-loop waits n left asks₀ i j taken k₀ asks k = n - k
+μ-loop waits asks₀ i j taken k₀ asks k = 32 - k
 
 loop-holds : tie.Need-loop-holds Inv-loop μ-loop
-loop-holds c = (omega arith, asked-none _ _ _ _)
+loop-holds c = (omega arith, included-none _ _ _)
 
 loop-again : tie.Need-loop-again Inv-loop μ-loop
 loop-again c =
     let inv = c .before .before .before .before .loop .inv in
-    (omega arith, asked-more _ _ _ _ _ _ _ (omega (arith, inv .1 .long)) (inv .1) (c .including-if .ensures))
+    (omega arith, included-more _ _ _ _ _ _ (omega (arith, inv .1 .long)) (inv .1) (c .including-if .ensures))
 
 returns : tie.Need-returns Inv-loop μ-loop
-returns c =
-    let a = c .before .before .args in
-    let inv = c .before .loop .inv in
-    let e : c .before .loop .k ≡ a .n = omega arith in (
-      asked-own (a .waits .now) (a .lot .0) _ _ _ _ _ (rw e at (inv .1)),
-      getD-set-same (c .before .loop .asks) (a .lot .0) (a .left) 0 (omega (arith, inv .1 .long)),
-    )
+returns c = let e : c .before .loop .k ≡ 32 = omega arith in rw e at (c .before .loop .inv .1)
 
 pub ask-again-spec : {M : Type 1} → statement M
 ask-again-spec =
@@ -39,6 +33,7 @@ ask-again-spec =
     (tie.spec
     Inv-loop
     μ-loop
+    (λ c. omega arith)
     (λ c. omega arith)
     loop-holds
     (λ c. omega arith)
@@ -52,6 +47,4 @@ ask-again-spec =
     (λ c. omega arith)
     (λ c. omega arith)
     loop-again
-    (λ c. omega arith)
-    (λ c. omega arith)
     returns)

@@ -12,8 +12,8 @@ use Rattle.specification.specs.Bytes.{orderMark, readOpening}
 use Rattle.specification.specs.OrderFile.{orderCount}
 use Rattle.specification.specs.Check.{checkOrder}
 use Rattle.files.specs.Files.{statedStep}
-use Rattle.book.proofs.Readable.{counts-are}
-use Rattle.book.proofs.Tables.{offsets-tabled, offsets-packed}
+use Rattle.book.proofs.Readable.{Read, counts-are}
+use Rattle.book.proofs.Tables.{offsets-tabled, offsets-packed, offsets-worded}
 use Rattle.book.proofs.Counted.{book-counted}
 use Rattle.order.proofs.Agreeing.{whole-check}
 use Rattle.order.proofs.inner.check_by.Statement.{statement}
@@ -63,17 +63,26 @@ returns-3 c =
       lt-ltb _ _ (rw (counted .u16-at .ensures) at (c .if2 .taken)),
     )
 
+-- the book is read
+known : (c : tie.Else2) → (let a = start (c .before .before .before) .args in Read (a .book .now) (a .n) (a .m))
+known c = counts-are _ (sym (start (c .before .before .before) .pre .0))
+
+row-starts-requires : tie.Need-row-starts-requires
+row-starts-requires c κs = (known c .is-readable, omega (arith, known c .lots-is))
+
 check-pairs-requires : tie.Need-check-pairs-requires
 check-pairs-requires c κs =
-    let s = start (c .before .before .before) in
-    let read = counts-are (s .args .book .now) (sym (s .pre .0)) in
+    let e = c .before .before in
+    let s = start (e .before .before .before) in
+    let read = known e in
     let few = read .known .calls-within in
     record {
       tabled = rw (s .pre .1) (offsets-tabled (s .args .book .now) read);
       packed = rw (s .pre .1) (offsets-packed (s .args .book .now) read (omega (arith, read .calls-is)) (omega (arith, read .calls-is)));
+      worded = rw (s .pre .1) (offsets-worded (s .args .book .now) read _ (c .before .row-starts .ensures));
       counted = rw (s .pre .1) (book-counted (s .args .book .now) read);
       sized = record {
-        order-long = c .before .if1 .left;
+        order-long = e .before .if1 .left;
         few-pairs = omega arith;
         few-lots = omega (arith, read .lots-is, read .known .lots-within);
         few-calls = omega (arith, read .calls-is);
@@ -82,12 +91,12 @@ check-pairs-requires c κs =
 
 returns-4 : tie.Need-returns-4
 returns-4 c =
-    let counted = c .before .before .before in
+    let counted = c .before .before .before .before .before in
     let o = counted .before in
     let s = start o in
     rw (s .pre .1, counted .u16-at .ensures) at (c .check-pairs .ensures)
     ∙ whole-check (s .args .book .now) (s .args .order .now) (record { lots = s .args .n; calls = s .args .m }) (s .pre .0) (opens o)
-    (whole (c .before))
+    (whole (c .before .before .before))
 
 pub check-by-spec : {M : Type 1} → statement M
 check-by-spec =
@@ -103,5 +112,6 @@ check-by-spec =
     (λ c. search needs)
     returns-2
     returns-3
+    row-starts-requires
     check-pairs-requires
     returns-4)

@@ -81,6 +81,7 @@ settle-requires c κs =
     record {
       tabled = start t .pre .tabled;
       packed = start t .pre .packed;
+      worded = start t .pre .worded;
       sized = start t .pre .sized;
       each-once = order-of-pairs (a .book .now) (a .offsets .now) (a .n) (a .m) (S t) (passed t) (enough (c .before));
       shows = t .before .before .fill-places .ensures .shows (passes t);

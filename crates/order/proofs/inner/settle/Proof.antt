@@ -11,13 +11,13 @@ walk-requires : tie.Need-walk-requires
 walk-requires c κs =
     let start = c .before .before in
     let a = start .args in
-    walkable (a .book .now) (a .offsets .now) (a .places .now) (a .order .now) (a .count) (a .n) (a .m) (start .pre)
+    walkable (a .book .now) (a .offsets .now) (a .starts .now) (a .places .now) (a .order .now) (a .count) (a .n) (a .m) (start .pre)
 
 returns : tie.Need-returns
 returns c =
     let start = c .before .before .before .before in
     let a = start .args in
-    sym (settled-whole (a .book .now) (a .offsets .now) (a .places .now) (a .order .now) (a .count) (a .n) (a .m) (start .pre)
+    sym (settled-whole (a .book .now) (a .offsets .now) (a .starts .now) (a .places .now) (a .order .now) (a .count) (a .n) (a .m) (start .pre)
     (c .before .walk .result) (c .before .walk .ensures) (c .if1 .taken))
 
 -- the place that the walk found
@@ -30,7 +30,7 @@ module _ (c : tie.Else1) where
       let a = start .args in
       omega (
         arith,
-        lowest (a .book .now) (a .offsets .now) (a .places .now) (a .order .now) (a .count) (a .n) (a .m) (start .pre)
+        lowest (a .book .now) (a .offsets .now) (a .starts .now) (a .places .now) (a .order .now) (a .count) (a .n) (a .m) (start .pre)
             (c .before .walk .result) (c .before .walk .ensures) .within,
       )
 
@@ -44,14 +44,14 @@ pair-failure-requires : tie.Need-pair-failure-requires
 pair-failure-requires c κs =
     let found = c .before .before in
     let a = start found .args in
-    scannable (a .book .now) (a .offsets .now) (a .places .now) (a .order .now) (a .count) (a .n) (a .m) (start found .pre)
+    scannable (a .book .now) (a .offsets .now) (a .starts .now) (a .places .now) (a .order .now) (a .count) (a .n) (a .m) (start found .pre)
     (found .before .walk .result) _ _ (within found) (c .before .lot-at .ensures) (c .call-at .ensures)
 
 returns-2 : tie.Need-returns-2
 returns-2 c =
     let found = c .before .before .before in
     let a = start found .args in
-    settled-at (a .book .now) (a .offsets .now) (a .places .now) (a .order .now) (a .count) (a .n) (a .m) (start found .pre)
+    settled-at (a .book .now) (a .offsets .now) (a .starts .now) (a .places .now) (a .order .now) (a .count) (a .n) (a .m) (start found .pre)
     (found .before .walk .result) (found .before .walk .ensures) (within found) (c .pair-failure .result) _ _
     (c .before .before .lot-at .ensures) (c .before .call-at .ensures) (c .pair-failure .ensures)
 

@@ -5,7 +5,7 @@ use native.Mathlib.Omega.{arith}
 use borrow.Author.Needs.{needs}
 use lib.ListN.{length}
 use Rattle.specification.specs.Text.{decimal, line}
-use Rattle.placer.specs.Rendering.{Room, AppendedWithin}
+use Rattle.placer.specs.Rendering.{firstMost, Room, AppendedWithin}
 use Rattle.placer.proofs.Appending.{append-more, room-first, room-rest, within-of, within-more}
 use Rattle.placer.proofs.Lines.{first-line-length}
 use Rattle.placer.proofs.text.answer_text.Statement.{statement}
@@ -15,7 +15,7 @@ use Rattle.placer.proofs.text.answer_text.Tie as tie
 abbrev first : tie.Start → List ℕ
 first c = line (c .args .verdict .now) (decimal (c .args .units) ∷ decimal (c .args .cost) ∷ [])
 
-first-short : (c : tie.Start) → length (first c) ≤ 48
+first-short : (c : tie.Start) → length (first c) ≤ firstMost
 first-short c = first-line-length _ _ _ (c .pre .3) (c .fits .units .fits) (c .fits .cost .fits)
 
 first-room : (c : tie.Start) → Room (c .args .out .now) 0 (first c)
@@ -24,7 +24,7 @@ first-room c = record { fits = omega (arith, first-short c) }
 first-appended : (c : tie.After-last-two)
     → let word = c .before .before .before .before in
     let start = word .before .before .before .before in
-    AppendedWithin 48 0 (start .args .out .now) (first start) (c .last-two .result) (c .last-two .last .0)
+    AppendedWithin firstMost 0 (start .args .out .now) (first start) (c .last-two .result) (c .last-two .last .0)
 unfolding line
 first-appended c =
     let word = c .before .before .before .before in

@@ -6,7 +6,7 @@ use borrow.Author.Needs.{needs}
 use borrow.Author.Tests.{eq-eqb, ne-eqb}
 use lib.ListN.{length}
 use Rattle.specification.specs.Text.{decimal, line}
-use Rattle.placer.specs.Rendering.{Room}
+use Rattle.placer.specs.Rendering.{pairMost, Room}
 use Rattle.placer.proofs.Appending.{append-none, append-more, room-first, room-rest, within-of}
 use Rattle.placer.proofs.Lines.{pair-line-length}
 use Rattle.placer.proofs.text.pair_line.Statement.{statement}
@@ -16,7 +16,7 @@ use Rattle.placer.proofs.text.pair_line.Tie as tie
 abbrev pair : tie.Start → List ℕ
 pair c = line (decimal (c .args .lot .0)) (decimal (c .args .call .0) ∷ decimal (c .args .units) ∷ [])
 
-short : (c : tie.Start) → length (pair c) ≤ 17
+short : (c : tie.Start) → length (pair c) ≤ pairMost
 short c = pair-line-length _ _ _ (c .pre .0) (c .pre .1) (c .fits .units .fits)
 
 room : (c : tie.Start) → Room (c .args .out .now) (c .args .at) (pair c)

@@ -1,19 +1,19 @@
--- `placer::text::pair_lines` meets its contract. The invariant: the lines of the entries passed have been appended, in at most 17 bytes
--- each.
+-- `placer::text::pair_lines` meets its contract. The invariant: the lines of the entries passed have been appended, in at most
+-- `pairMost` bytes each.
 use mathlib.Core.Path.{_≡_}
 use Prim.Native.Nat.{ℕ, zero, suc, _*_, _/_, _%_, _≤_, _<_, _-_}
 use native.Mathlib.Nat.{mul-le-mul, not-suc-le-zero, div-lt-iff-lt-mul, mod-lt, mul-zero, zero-lt-suc}
 use native.Mathlib.Numerals.{add-one}
 use native.Mathlib.Omega.{arith}
 use Rattle.specification.specs.Text.{pairLines}
-use Rattle.placer.specs.Rendering.{AppendedWithin}
+use Rattle.placer.specs.Rendering.{pairMost, AppendedWithin}
 use Rattle.placer.proofs.Appending.{append-none, within-of, within-more}
 use Rattle.placer.proofs.text.pair_lines.Statement.{statement}
 use Rattle.placer.proofs.text.pair_lines.Tie as tie
 
 abbrev Inv-loop : tie.InvT-loop
 Inv-loop out₀ at n m flow cells next₀ k₀ out next k =
-    (k ≤ cells) × (cells ≤ 1024) × AppendedWithin (17 * k) at out₀ (pairLines m flow k) next out
+    (k ≤ cells) × (cells ≤ 1024) × AppendedWithin (pairMost * k) at out₀ (pairLines m flow k) next out
 
 abbrev μ-loop : tie.MeasureT-loop
 μ-loop out₀ at n m flow cells next₀ k₀ out next k = cells - k

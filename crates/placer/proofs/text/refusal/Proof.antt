@@ -5,14 +5,14 @@ use native.Mathlib.Omega.{arith}
 use borrow.Author.Needs.{needs}
 use lib.ListN.{length}
 use Rattle.specification.specs.Text.{decimal, line, refusedWord}
-use Rattle.placer.specs.Rendering.{Room}
+use Rattle.placer.specs.Rendering.{refusalMost, Room}
 use Rattle.placer.proofs.Appending.{append-more, room-rest, within-of}
 use Rattle.placer.proofs.Lines.{refused-line-length}
 use Rattle.placer.proofs.text.refusal.Statement.{statement}
 use Rattle.placer.proofs.text.refusal.Tie as tie
 
 -- the line is short, and there is room for it
-short : (c : tie.Start) → length (line refusedWord (decimal (c .args .k) ∷ [])) ≤ 29
+short : (c : tie.Start) → length (line refusedWord (decimal (c .args .k) ∷ [])) ≤ refusalMost
 short c = refused-line-length refusedWord _ (omega arith) (c .fits .k .fits)
 
 room : (c : tie.Start) → Room (c .args .out .now) 0 (line refusedWord (decimal (c .args .k) ∷ []))

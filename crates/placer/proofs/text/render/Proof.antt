@@ -36,10 +36,11 @@ returns-2 c =
 returns-3 : tie.Need-returns-3
 returns-3 c =
     let r = c .before .before in
-    let p = r .before .before .before .before in
+    let number = r .before in
+    let p = number .before .before .before in
     rw (p .placed3 .given .1)
     (rendered _ _ _ _ (r .refusal .ensures) (omega arith)
-    (λ P lots calls. rw (r .before .number .ensures) (refused-text (p .placed3 .given .0 .0) _ P)))
+    (λ P lots calls. rw (number .number .ensures) (refused-text (p .placed3 .given .0 .0) _ P)))
 
 pub render-spec : {M : Type 1} → statement M
 render-spec =
@@ -53,6 +54,7 @@ render-spec =
     answer-text-requires-2
     (λ c. search needs)
     (λ c κs. search needs)
+    (λ c. search needs)
     (λ c κs. omega (arith, c .before .before .before .before .before .before .pre .1))
     (λ c. search needs)
     returns

@@ -1,0 +1,15 @@
+-- `corners::halves::edge` meets its contract, by its two cases.
+use borrow.Author.Needs.{needs}
+use mathlib.Core.Path.{refl}
+use native.Mathlib.Omega.{arith}
+use Rattle.corners.proofs.halves.edge.Statement.{statement}
+use Rattle.corners.proofs.halves.edge.Tie as tie
+
+returns : tie.Need-returns
+returns c = rw (c .if1 .taken) (refl, omega arith)
+
+returns-2 : tie.Need-returns-2
+returns-2 c = rw (c .if1 .left) (refl, omega arith)
+
+pub edge-spec : {M : Type 1} → statement M
+edge-spec = tie.close (tie.spec (λ c. search needs) returns returns-2)

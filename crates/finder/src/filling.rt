@@ -1,0 +1,88 @@
+// The table of slacks, filled lot by lot from the rows of a book that was read.
+use book::inner::cost_at;
+use book::inner::pair_count;
+use book::inner::set_from;
+use slacks::SLACK_MOST;
+use specification::Lot;
+ghost use mathlib.Core.Path.{_≡_};
+ghost use Prim.Native.Nat.{_+_, _-_, _^_, _≤_, _<_};
+ghost use lib.ListN.{replicate};
+ghost use Rattle.transport.specs.Finder.{size};
+ghost use Rattle.transport.proofs.Finder.Same.{Same};
+ghost use Rattle.specification.specs.Reply.{gives};
+ghost use Rattle.specification.specs.Bytes.{u32At};
+ghost use Rattle.specification.specs.Book.{bookLots, readBook, problemOf};
+ghost use Rattle.slacks.specs.Slacks.{bySlacks, Slacks};
+ghost use Rattle.finder.specs.Filling.{AtLot};
+
+// Enters the slacks of the lot whose row starts at a byte, set bit by set bit. The byte at which the next row starts.
+fn enter_set(book: &[u8], at: usize, lot: Lot, word: u32, slacks: &mut [u32; 1024]) -> usize
+    requires { ⌜ AtLot (now book) (lot .0) at (now slacks) × (lot .0 < bookLots (now book)) × (word ≡ u32At (now book) at) ⌝ }
+    ensures { λ r. ⌜ AtLot (now (book .entry)) (lot .0 + 1) r (now (slacks .exit)) ⌝ }
+{
+    let i = lot.0;
+    let mut next = at + 4;
+    let mut j = set_from(word, 0);
+    while j < 32 {
+        slacks[32 * j + i] = SLACK_MOST - cost_at(book, next);
+        next += 4;
+        j = set_from(word, j + 1);
+    }
+    next
+}
+
+// The same where the lot has all m calls: the costs stand side by side.
+fn enter_all(book: &[u8], at: usize, lot: Lot, m: usize, slacks: &mut [u32; 1024]) -> usize
+    requires { ⌜ AtLot (now book) (lot .0) at (now slacks) × (lot .0 < bookLots (now book))
+        × (m ≤ 32) × (u32At (now book) at ≡ 2 ^ m - 1) ⌝ }
+    ensures { λ r. ⌜ AtLot (now (book .entry)) (lot .0 + 1) r (now (slacks .exit)) ⌝ }
+{
+    let i = lot.0;
+    let start = at + 4;
+    for j in 0..m {
+        slacks[32 * j + i] = SLACK_MOST - cost_at(book, start + 4 * j);
+    }
+    start + 4 * m
+}
+
+// The word of a lot that has all m calls.
+fn all_calls(m: usize) -> u32
+    requires { ⌜ m ≤ 32 ⌝ }
+    ensures { λ r. ⌜ r ≡ 2 ^ m - 1 ⌝ }
+{
+    ((1u64 << m) - 1) as u32
+}
+
+// Enters the slacks of a lot, by its word.
+fn enter_lot(
+    book: &[u8],
+    at: usize,
+    lot: Lot,
+    m: usize,
+    all: u32,
+    slacks: &mut [u32; 1024],
+) -> usize
+    requires { ⌜ AtLot (now book) (lot .0) at (now slacks) × (lot .0 < bookLots (now book)) × (m ≤ 32) × (all ≡ 2 ^ m - 1) ⌝ }
+    ensures { λ r. ⌜ AtLot (now (book .entry)) (lot .0 + 1) r (now (slacks .exit)) ⌝ }
+{
+    let word = cost_at(book, at);
+    if word == all {
+        enter_all(book, at, lot, m, slacks)
+    } else {
+        enter_set(book, at, lot, word, slacks)
+    }
+}
+
+// The slacks of all pairs, in an array of zeros. How many pairs are eligible.
+pub fn fill_slacks(book: &[u8], n: usize, m: usize, slacks: &mut [u32; 1024]) -> usize
+    requires { ⌜ (readBook (now book) ≡ gives (record { lots = n; calls = m })) × (now slacks ≡ replicate 1024 0) ⌝ }
+    ensures { λ r. ⌜ Same (problemOf (now (book .entry))) (bySlacks (now (slacks .exit)) n m) ⌝ }
+    ensures { λ r. ⌜ Slacks (now (slacks .exit)) n m × (r ≡ size (bySlacks (now (slacks .exit)) n m)) ⌝ }
+{
+    let all = all_calls(m);
+    let mut at = 7;
+    for i in 0..n {
+        at = enter_lot(book, at, Lot(i), m, all, slacks);
+    }
+    pair_count(book, n)
+}

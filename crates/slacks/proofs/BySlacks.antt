@@ -1,0 +1,38 @@
+-- Laws of slacks: a pair remains where it has slack, and a table stays capped.
+use mathlib.Core.Path.{_≡_, subst⁻¹}
+use mathlib.Core.Logic.{by-cases}
+use mathlib.Core.List.{List}
+use Prim.Native.Nat.{ℕ, suc, _≤_, _<_}
+use native.Mathlib.Decide.{ℕ-discrete, decLt}
+use native.Mathlib.Omega.{arith}
+use borrow.Author.Tests.{eq-eqb, lt-ltb}
+use lib.Dec.{T, eqb, T-not, not-T, eqb→eq}
+use lib.ListN.{length, getD, set, replicate, getD-replicate, length-replicate, List·getD-eq-default}
+use lib.Seq.{getD-set-same, getD-set-other}
+use Rattle.transport.proofs.Laws.Tests.{positive}
+use Rattle.specification.specs.Book.{costLimit}
+use Rattle.book.specs.Table.{entry}
+use Rattle.slacks.specs.Slacks.{remains, bySlacks, Capped}
+
+-- a pair remains exactly where it has slack
+module _ (slacks : List ℕ) (i j : ℕ) where
+  pub remains-says : T (remains slacks i j) → 0 < entry slacks j i
+  remains-says t = positive (entry slacks j i) (λ e. T-not (eqb (entry slacks j i) 0) t (rw (eq-eqb (entry slacks j i) 0 e) tt))
+
+  pub remains-of : (entry slacks j i ≡ 0 → ⊥) → T (remains slacks i j)
+  remains-of h = not-T (eqb (entry slacks j i) 0) (λ t. h (eqb→eq (entry slacks j i) 0 t))
+
+-- a table of zeros is capped, and stays so
+pub capped-zeros : Capped (replicate 1024 0)
+capped-zeros x = by-cases (decLt x 1024)
+    (λ h. omega (arith, getD-replicate {A = ℕ} 1024 x 0 0 h))
+    (λ h. omega (arith, List·getD-eq-default {A = ℕ} (replicate 1024 0) 0 {n = x} (omega (arith, length-replicate {A = ℕ} 1024 0))))
+
+pub capped-set : (t : List ℕ) (x v : ℕ) → Capped t → v ≤ suc costLimit → x < length t → Capped (set t x v)
+capped-set t x v h le lt y = by-cases (ℕ-discrete y x)
+    (λ e. subst⁻¹ (λ (z : ℕ). getD (set t x v) z 0 ≤ suc costLimit) e (omega (arith, getD-set-same t x v 0 lt)))
+    (λ d. omega (arith, h y, getD-set-other t x y v 0 d))
+
+module _ (slacks : List ℕ) (n m : ℕ) where
+  pub admits-is : (i j : ℕ) → i < n → j < m → bySlacks slacks n m .admits i j ≡ remains slacks i j
+  admits-is i j hi hj = rw (lt-ltb i n hi, lt-ltb j m hj)

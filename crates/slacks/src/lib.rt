@@ -1,0 +1,29 @@
+// What both searches for an order share. They go through a table of slacks: how far a pair's cost lies below one more than the limit, at 32 times
+// call plus lot, and 0 where the pair is not eligible. They answer with the bytes of the pairs that they found.
+use specification::COST_LIMIT;
+use specification::Call;
+use specification::Lot;
+ghost use mathlib.Core.Path.{_≡_};
+ghost use mathlib.Core.List.{[], _∷_, _++_};
+ghost use Prim.Native.Nat.{_+_, _*_, _≤_, _<_};
+ghost use lib.ListN.{length, take};
+
+// The highest slack, that of a cost of 0: one more than the limit, so that each eligible pair has some.
+pub const SLACK_MOST: u32 = COST_LIMIT + 1;
+
+// How many pairs the order has, or that there is none.
+pub enum Search {
+    Found(usize),
+    Nothing,
+}
+
+// The pair becomes the next of the pairs, two bytes each.
+pub fn put(pairs: &mut [u8], count: usize, lot: Lot, call: Call)
+    requires { ⌜ (lot .0 < 32) × (call .0 < 32) × (count < 1024) × (2048 ≤ length (now pairs)) ⌝ }
+    ensures { λ r. ⌜ take (2 * (count + 1)) (now (pairs .exit)) ≡ take (2 * count) (now (pairs .entry)) ++ (lot .0 ∷ call .0 ∷ []) ⌝ }
+{
+    let i = lot.0;
+    let j = call.0;
+    pairs[2 * count] = i as u8;
+    pairs[2 * count + 1] = j as u8;
+}

@@ -1,0 +1,44 @@
+-- The cost of one pair: what the reply is, by where the pair stands in a book that is read.
+use mathlib.Core.Path.{_≡_, refl, _∙_}
+use mathlib.Core.Logic.{_⊎_, ⊎-elim}
+use mathlib.Core.Bool.{cond, _&&_}
+use mathlib.Core.List.{List}
+use Prim.Native.Nat.{ℕ, _≤_, _<_}
+use native.Mathlib.Omega.{arith}
+use lib.Dec.{T, ltb, ltb→lt, lt→ltb}
+use Rattle.transport.specs.Problem.{Eligible}
+use Rattle.transport.proofs.Laws.Tests.{T-true, T-false, and-says}
+use Rattle.specification.specs.Reply.{gives, Size}
+use Rattle.specification.specs.Book.{readBook, problemOf, costs, notEligible, outside, pairCost}
+use Rattle.specification.proofs.Replies.{Says, giving, says-then}
+use Rattle.specification.proofs.Books.{BookRefused, book-says, book-limits}
+
+-- it is refused as the book is
+pub pair-cost-says : (book : List ℕ) (i j : ℕ) → Says (λ _. Unit {0}) (BookRefused book) (pairCost book i j)
+pair-cost-says book i j = says-then _ (book-says book) (λ k vs q. q) (λ n read. giving tt)
+
+module _ (book : List ℕ) (n : Size) (e : readBook book ≡ gives n) (i j : ℕ) where
+  pair-inside : i < n .lots → j < n .calls
+      → pairCost book i j ≡ gives (cond (problemOf book .admits i j) (costs (problemOf book .cost i j)) notEligible)
+  pair-inside h g = rw (e, T-true (ltb i (n .lots)) (lt→ltb i (n .lots) h), T-true (ltb j (n .calls)) (lt→ltb j (n .calls) g)) refl
+
+  pub pair-costs : Eligible (problemOf book) i j → pairCost book i j ≡ gives (costs (problemOf book .cost i j))
+  pair-costs (h, g, admitted) =
+      let limits = book-limits book n e in
+      pair-inside (omega (arith, limits .its-lots)) (omega (arith, limits .its-calls))
+      ∙ rw (T-true (problemOf book .admits i j) admitted) refl
+
+  pub pair-not-eligible : i < n .lots → j < n .calls → (Eligible (problemOf book) i j → ⊥) → pairCost book i j ≡ gives notEligible
+  pair-not-eligible h g never =
+      let limits = book-limits book n e in
+      let not-admitted : (T (problemOf book .admits i j) → ⊥) =
+      λ t. never (omega (arith, limits .its-lots), omega (arith, limits .its-calls), t) in
+      pair-inside h g ∙ rw (T-false (problemOf book .admits i j) not-admitted) refl
+
+  pub pair-outside : (n .lots ≤ i) ⊎ (n .calls ≤ j) → pairCost book i j ≡ gives outside
+  pair-outside far = rw (
+    e,
+    T-false (ltb i (n .lots) && ltb j (n .calls)) (λ t.
+        let (lot, call) = and-says (ltb i (n .lots)) (ltb j (n .calls)) t in
+        ⊎-elim (λ (h : n .lots ≤ i). omega (arith, ltb→lt i (n .lots) lot)) (λ (h : n .calls ≤ j). omega (arith, ltb→lt j (n .calls) call)) far),
+  ) refl

@@ -1,0 +1,2 @@
+-- What a word has, and what it has after a change.
+pub mod Words  -- the lowest and the highest number, what two words share, one number taken out or put in
