@@ -2,6 +2,7 @@
 // and its lowest call.
 use super::halves::name_columns;
 use super::renewing::Freed;
+use slacks::SIDE;
 use specification::Call;
 use specification::Lot;
 use words::including;
@@ -31,9 +32,9 @@ fn set_to(test: bool, word: u32, j: usize) -> u32
 pub fn free_lot(
     lot: usize,
     columns: u32,
-    calls: &[u8; 32],
+    calls: &[u8; SIDE],
     before: u32,
-    free: &mut [u32; 32],
+    free: &mut [u32; SIDE],
     some: u32,
 ) -> u32
     requires { ⌜ (lot < 32) × (length (now free) ≡ 32) × ((x : ℕ) → x < 32 → bit columns x ≡ true → getD (now calls) x 0 < 32) ⌝ }
@@ -45,7 +46,7 @@ pub fn free_lot(
 }
 
 // The lots at some rows have a call put into their words.
-fn free_call(rows: u32, lots: &[u8; 32], call: usize, free: &mut [u32; 32])
+fn free_call(rows: u32, lots: &[u8; SIDE], call: usize, free: &mut [u32; SIDE])
     requires { ⌜ (call < 32) × (length (now free) ≡ 32) × ((x : ℕ) → x < 32 → bit rows x ≡ true → getD (now lots) x 0 < 32) ⌝ }
     ensures { λ r. ⌜ Spread (now (lots .entry)) rows call (now (free .entry)) (now (free .exit)) ⌝ }
 {
@@ -60,12 +61,12 @@ fn free_call(rows: u32, lots: &[u8; 32], call: usize, free: &mut [u32; 32])
 
 // The pair of a lot and a call is taken, and others became free; the word of the lots with a free pair.
 pub fn release(
-    lots: &[u8; 32],
-    calls: &[u8; 32],
+    lots: &[u8; SIDE],
+    calls: &[u8; SIDE],
     lot: Lot,
     call: Call,
     freed: Freed,
-    free: &mut [u32; 32],
+    free: &mut [u32; SIDE],
     some: u32,
 ) -> u32
     requires { ⌜ ((n : ℕ) × (m : ℕ) × (p : ℕ) × (q : ℕ) × (can : (ℕ → ℕ → Bool)) × Releases n m p q can (now lots) (now calls) (lot .0) (call .0)

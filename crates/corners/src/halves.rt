@@ -1,4 +1,6 @@
 // One half of the corner test in one row of a table by ranks. Rows and columns are exchanged by handing over the turned table.
+use slacks::PAIRS;
+use slacks::SIDE;
 use words::highest;
 use words::including;
 use words::including_if;
@@ -14,11 +16,11 @@ ghost use Rattle.ranks.specs.Ranked.{fitsBy};
 ghost use Rattle.corners.specs.Corners.{EndIn, rowBeside, CanRenew, Renewed, Crossed, FirstRow, Named};
 
 // Whether (p, q) fits with (k, l).
-fn fits(table: &[u32; 1024], p: usize, q: usize, k: usize, l: usize) -> bool
+fn fits(table: &[u32; PAIRS], p: usize, q: usize, k: usize, l: usize) -> bool
     requires { ⌜ (p < 32) × (q < 32) × (k < 32) × (l < 32) × Capped (now table) ⌝ }
     ensures { λ r. ⌜ r ≡ fitsBy (now (table .entry)) p q k l ⌝ }
 {
-    table[32 * p + l] + table[32 * k + q] <= table[32 * p + q] + table[32 * k + l]
+    table[SIDE * p + l] + table[SIDE * k + q] <= table[SIDE * p + q] + table[SIDE * k + l]
 }
 
 // The lowest number in a word, or the highest.
@@ -34,14 +36,18 @@ fn beside(p: usize, low: bool) -> usize
     requires { ⌜ p < 32 ⌝ }
     ensures { λ r. ⌜ (r ≡ rowBeside low p) × (r < 32) ⌝ }
 {
-    if low { (p + 1) % 32 } else { (p + 31) % 32 }
+    if low {
+        (p + 1) % SIDE
+    } else {
+        (p + (SIDE - 1)) % SIDE
+    }
 }
 
 // Of the columns to be tested in row p, those whose half holds now that `left` remains to the row. They are tested from the near end on. Where
 // the row beside p hinders a column, it hinders each one further on, and no more are tested.
 pub fn renewed(
-    table: &[u32; 1024],
-    across: &[u32; 32],
+    table: &[u32; PAIRS],
+    across: &[u32; SIDE],
     p: usize,
     left: u32,
     untested: u32,
@@ -66,7 +72,7 @@ pub fn renewed(
 }
 
 // Row p is put into the word of each column of a word.
-pub fn cross(columns: u32, p: usize, across: &mut [u32; 32])
+pub fn cross(columns: u32, p: usize, across: &mut [u32; SIDE])
     requires { ⌜ (p < 32) × (length (now across) ≡ 32) ⌝ }
     ensures { λ _. ⌜ Crossed columns p (now (across .entry)) (now (across .exit)) ⌝ }
 {
@@ -88,12 +94,12 @@ fn edge(count: usize, last: bool) -> usize
 
 // The columns of row p whose half holds while all n rows and m columns are left; row p is put into the word of each.
 pub fn first_row(
-    table: &[u32; 1024],
+    table: &[u32; PAIRS],
     n: usize,
     m: usize,
     p: usize,
     low: bool,
-    across: &mut [u32; 32],
+    across: &mut [u32; SIDE],
 ) -> u32
     requires { ⌜ (p < n) × (n ≤ 32) × (0 < m) × (m ≤ 32) × Capped (now table) × (length (now across) ≡ 32) ⌝ }
     ensures { λ r. ⌜ FirstRow low (now (table .entry)) n m p r (now (across .entry)) (now (across .exit)) ⌝ }
@@ -112,7 +118,7 @@ pub fn first_row(
 }
 
 // The word with the numbers that stand at the columns of another.
-pub fn name_columns(columns: u32, names: &[u8; 32], before: u32) -> u32
+pub fn name_columns(columns: u32, names: &[u8; SIDE], before: u32) -> u32
     requires { ⌜ ((x : ℕ) → x < 32 → bit columns x ≡ true → getD (now names) x 0 < 32) ⌝ }
     ensures { λ r. ⌜ Named (now (names .entry)) columns before r ⌝ }
 {

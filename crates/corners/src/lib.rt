@@ -7,6 +7,8 @@ use freeing::free_lot;
 use freeing::release;
 use halves::first_row;
 use renewing::take;
+use slacks::PAIRS;
+use slacks::SIDE;
 use slacks::Search;
 use slacks::put;
 use specification::Call;
@@ -28,12 +30,12 @@ ghost use Rattle.slacks.specs.Found.{Finds};
 
 // The marks of one half while all n rows and m columns are left.
 fn first_marks(
-    table: &[u32; 1024],
+    table: &[u32; PAIRS],
     n: usize,
     m: usize,
     low: bool,
-    marks: &mut [u32; 32],
-    mirror: &mut [u32; 32],
+    marks: &mut [u32; SIDE],
+    mirror: &mut [u32; SIDE],
 )
     requires { ⌜ (n ≤ 32) × (0 < m) × (m ≤ 32) × Capped (now table) ⌝ }
     requires { ⌜ (length (now marks) ≡ 32) × (length (now mirror) ≡ 32) × ((x : ℕ) → getD (now mirror) x 0 ≡ 0) ⌝ }
@@ -49,11 +51,11 @@ fn first_marks(
 // The pairs that are free at first; the word of the lots that have one.
 fn first_free(
     n: usize,
-    lots: &[u8; 32],
-    calls: &[u8; 32],
-    low: &[u32; 32],
-    high: &[u32; 32],
-    free: &mut [u32; 32],
+    lots: &[u8; SIDE],
+    calls: &[u8; SIDE],
+    low: &[u32; SIDE],
+    high: &[u32; SIDE],
+    free: &mut [u32; SIDE],
 ) -> u32
     requires { ⌜ ((m : ℕ) × FirstFrees n m (now lots) (now calls) (now low)) ⌝ }
     requires { ⌜ (length (now free) ≡ 32) × ((x : ℕ) → getD (now free) x 0 ≡ 0) ⌝ }
@@ -75,28 +77,28 @@ fn first_free(
 pub fn find_ranked(
     n: usize,
     m: usize,
-    lots: &[u8; 32],
-    lot_ranks: &[u8; 32],
-    calls: &[u8; 32],
-    call_ranks: &[u8; 32],
-    table: &[u32; 1024],
-    turned: &[u32; 1024],
+    lots: &[u8; SIDE],
+    lot_ranks: &[u8; SIDE],
+    calls: &[u8; SIDE],
+    call_ranks: &[u8; SIDE],
+    table: &[u32; PAIRS],
+    turned: &[u32; PAIRS],
     pairs: &mut [u8],
 ) -> Search
     requires { ⌜ Ranking n m (now lots) (now «lot_ranks») (now calls) (now «call_ranks») (now table) (now turned) × (2048 ≤ length (now pairs)) ⌝ }
     ensures { λ r. ⌜ Finds (find (byRanks (now (table .entry)) (now («lot_ranks» .entry)) (now («call_ranks» .entry)) n m)) r (now (pairs .exit)) ⌝ }
 {
     // By rows: the columns left, and those marked for the low and the high half. By columns: the rows left, and the same marks.
-    let mut rows: [u32; 32] = [below(u32::MAX, m); 32];
-    let mut low: [u32; 32] = [0; 32];
-    let mut high: [u32; 32] = [0; 32];
-    let mut cols: [u32; 32] = [below(u32::MAX, n); 32];
-    let mut down: [u32; 32] = [0; 32];
-    let mut up: [u32; 32] = [0; 32];
+    let mut rows: [u32; SIDE] = [below(u32::MAX, m); SIDE];
+    let mut low: [u32; SIDE] = [0; SIDE];
+    let mut high: [u32; SIDE] = [0; SIDE];
+    let mut cols: [u32; SIDE] = [below(u32::MAX, n); SIDE];
+    let mut down: [u32; SIDE] = [0; SIDE];
+    let mut up: [u32; SIDE] = [0; SIDE];
     first_marks(table, n, m, true, &mut low, &mut down);
     first_marks(table, n, m, false, &mut high, &mut up);
     // By lots: their calls that are free.
-    let mut free: [u32; 32] = [0; 32];
+    let mut free: [u32; SIDE] = [0; SIDE];
     let mut some = first_free(n, lots, calls, &low, &high, &mut free);
     let total = n * m;
     let mut count = 0;

@@ -3,6 +3,8 @@
 // Marks by rows are `low` and `high`, words of columns; the same marks by columns are `down` and `up`, words of rows.
 use super::halves::cross;
 use super::halves::renewed;
+use slacks::PAIRS;
+use slacks::SIDE;
 use words::both;
 use words::either;
 use words::highest;
@@ -23,13 +25,13 @@ pub struct Freed {
 
 // Row p, which lost its near end, has the marks of one half renewed. The columns that are marked now.
 fn renew(
-    table: &[u32; 1024],
-    across: &[u32; 32],
+    table: &[u32; PAIRS],
+    across: &[u32; SIDE],
     p: usize,
     left: u32,
     low: bool,
-    marks: &mut [u32; 32],
-    mirror: &mut [u32; 32],
+    marks: &mut [u32; SIDE],
+    mirror: &mut [u32; SIDE],
 ) -> u32
     requires { ⌜ LostNear low (now table) (now across) p left (getD (now marks) p 0) × (length (now marks) ≡ 32) × (length (now mirror) ≡ 32) ⌝ }
     ensures { λ r. ⌜ RowRenewed low (now (table .entry)) (now (across .entry)) p left r (now (marks .entry)) (now (marks .exit))
@@ -44,15 +46,15 @@ fn renew(
 
 // Row p, which lost column q, has the marks of the half renewed whose near end that was. The columns that are free now and were not.
 fn renew_row(
-    table: &[u32; 1024],
-    across: &[u32; 32],
+    table: &[u32; PAIRS],
+    across: &[u32; SIDE],
     p: usize,
     q: usize,
     left: u32,
-    low: &mut [u32; 32],
-    down: &mut [u32; 32],
-    high: &mut [u32; 32],
-    up: &mut [u32; 32],
+    low: &mut [u32; SIDE],
+    down: &mut [u32; SIDE],
+    high: &mut [u32; SIDE],
+    up: &mut [u32; SIDE],
 ) -> u32
     requires { ⌜ Lost true (now table) (now across) p q left (getD (now low) p 0)
         × Lost false (now table) (now across) p q left (getD (now high) p 0) ⌝ }
@@ -75,16 +77,16 @@ fn renew_row(
 
 // (p, q) is taken: all that is kept by ranks is kept of what is left then.
 pub fn take(
-    table: &[u32; 1024],
-    turned: &[u32; 1024],
+    table: &[u32; PAIRS],
+    turned: &[u32; PAIRS],
     p: usize,
     q: usize,
-    rows: &mut [u32; 32],
-    cols: &mut [u32; 32],
-    low: &mut [u32; 32],
-    down: &mut [u32; 32],
-    high: &mut [u32; 32],
-    up: &mut [u32; 32],
+    rows: &mut [u32; SIDE],
+    cols: &mut [u32; SIDE],
+    low: &mut [u32; SIDE],
+    down: &mut [u32; SIDE],
+    high: &mut [u32; SIDE],
+    up: &mut [u32; SIDE],
 ) -> Freed
     requires { ⌜ ((n : ℕ) × (m : ℕ) × Takes n m (now table) (now turned) p q (now rows) (now cols) (now low) (now down) (now high) (now up)) ⌝ }
     ensures { λ r. ⌜ ((n m : ℕ) → Takes n m (now (table .entry)) (now (turned .entry)) p q (now (rows .entry)) (now (cols .entry))

@@ -2,6 +2,8 @@
 use book::inner::cost_at;
 use book::inner::pair_count;
 use book::inner::set_from;
+use slacks::PAIRS;
+use slacks::SIDE;
 use slacks::SLACK_MOST;
 use specification::Lot;
 ghost use mathlib.Core.Path.{_≡_};
@@ -16,7 +18,7 @@ ghost use Rattle.slacks.specs.Slacks.{bySlacks, Slacks};
 ghost use Rattle.finder.specs.Filling.{AtLot};
 
 // Enters the slacks of the lot whose row starts at a byte, set bit by set bit. The byte at which the next row starts.
-fn enter_set(book: &[u8], at: usize, lot: Lot, word: u32, slacks: &mut [u32; 1024]) -> usize
+fn enter_set(book: &[u8], at: usize, lot: Lot, word: u32, slacks: &mut [u32; PAIRS]) -> usize
     requires { ⌜ AtLot (now book) (lot .0) at (now slacks) × (lot .0 < bookLots (now book)) × (word ≡ u32At (now book) at) ⌝ }
     ensures { λ r. ⌜ AtLot (now (book .entry)) (lot .0 + 1) r (now (slacks .exit)) ⌝ }
 {
@@ -24,7 +26,7 @@ fn enter_set(book: &[u8], at: usize, lot: Lot, word: u32, slacks: &mut [u32; 102
     let mut next = at + 4;
     let mut j = set_from(word, 0);
     while j < 32 {
-        slacks[32 * j + i] = SLACK_MOST - cost_at(book, next);
+        slacks[SIDE * j + i] = SLACK_MOST - cost_at(book, next);
         next += 4;
         j = set_from(word, j + 1);
     }
@@ -32,7 +34,7 @@ fn enter_set(book: &[u8], at: usize, lot: Lot, word: u32, slacks: &mut [u32; 102
 }
 
 // The same where the lot has all m calls: the costs stand side by side.
-fn enter_all(book: &[u8], at: usize, lot: Lot, m: usize, slacks: &mut [u32; 1024]) -> usize
+fn enter_all(book: &[u8], at: usize, lot: Lot, m: usize, slacks: &mut [u32; PAIRS]) -> usize
     requires { ⌜ AtLot (now book) (lot .0) at (now slacks) × (lot .0 < bookLots (now book))
         × (m ≤ 32) × (u32At (now book) at ≡ 2 ^ m - 1) ⌝ }
     ensures { λ r. ⌜ AtLot (now (book .entry)) (lot .0 + 1) r (now (slacks .exit)) ⌝ }
@@ -40,7 +42,7 @@ fn enter_all(book: &[u8], at: usize, lot: Lot, m: usize, slacks: &mut [u32; 1024
     let i = lot.0;
     let start = at + 4;
     for j in 0..m {
-        slacks[32 * j + i] = SLACK_MOST - cost_at(book, start + 4 * j);
+        slacks[SIDE * j + i] = SLACK_MOST - cost_at(book, start + 4 * j);
     }
     start + 4 * m
 }
@@ -60,7 +62,7 @@ fn enter_lot(
     lot: Lot,
     m: usize,
     all: u32,
-    slacks: &mut [u32; 1024],
+    slacks: &mut [u32; PAIRS],
 ) -> usize
     requires { ⌜ AtLot (now book) (lot .0) at (now slacks) × (lot .0 < bookLots (now book)) × (m ≤ 32) × (all ≡ 2 ^ m - 1) ⌝ }
     ensures { λ r. ⌜ AtLot (now (book .entry)) (lot .0 + 1) r (now (slacks .exit)) ⌝ }
@@ -74,7 +76,7 @@ fn enter_lot(
 }
 
 // The slacks of all pairs, in an array of zeros. How many pairs are eligible.
-pub fn fill_slacks(book: &[u8], n: usize, m: usize, slacks: &mut [u32; 1024]) -> usize
+pub fn fill_slacks(book: &[u8], n: usize, m: usize, slacks: &mut [u32; PAIRS]) -> usize
     requires { ⌜ (readBook (now book) ≡ gives (record { lots = n; calls = m })) × (now slacks ≡ replicate 1024 0) ⌝ }
     ensures { λ r. ⌜ Same (problemOf (now (book .entry))) (bySlacks (now (slacks .exit)) n m) ⌝ }
     ensures { λ r. ⌜ Slacks (now (slacks .exit)) n m × (r ≡ size (bySlacks (now (slacks .exit)) n m)) ⌝ }

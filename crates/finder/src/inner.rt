@@ -1,6 +1,7 @@
 // Finding an order of the eligible pairs of a book that was read, for the other crates.
 use super::filling::fill_slacks;
 use super::search::find_by_slacks;
+use slacks::PAIRS;
 use slacks::Search;
 ghost use mathlib.Core.Path.{_≡_};
 ghost use Prim.Native.Nat.{_+_, _*_, _≤_};
@@ -16,8 +17,8 @@ pub fn find_by(book: &[u8], n: usize, m: usize, buffer: &mut [u8]) -> Search
     requires { ⌜ 7 + 2 * size (problemOf (now book)) ≤ length (now buffer) ⌝ }
     ensures { λ r. ⌜ Orders (find (problemOf (now (book .entry)))) r (now (buffer .entry)) (now (buffer .exit)) ⌝ }
 {
-    // By call, a row of 32 lots: the slack of each pair.
-    let mut slacks: [u32; 1024] = [0; 1024];
+    // By call, a row of `SIDE` lots: the slack of each pair.
+    let mut slacks: [u32; PAIRS] = [0; PAIRS];
     let total = fill_slacks(book, n, m, &mut slacks);
     find_by_slacks(&slacks, n, m, total, buffer)
 }

@@ -1,4 +1,6 @@
 // The words of the search, as the slacks make them.
+use slacks::PAIRS;
+use slacks::SIDE;
 use words::including_if;
 ghost use mathlib.Core.Path.{_≡_};
 ghost use Prim.Native.Nat.{_≤_, _<_};
@@ -7,7 +9,7 @@ ghost use Rattle.slacks.specs.Slacks.{remains, Slacks};
 ghost use Rattle.finder.specs.Words.{Begins, Included, Eligible, Words};
 
 // The lots that are eligible for call j. The call is put into the word of each of them.
-fn fill_call(slacks: &[u32; 1024], n: usize, j: usize, lefts: &mut [u32; 32]) -> u32
+fn fill_call(slacks: &[u32; PAIRS], n: usize, j: usize, lefts: &mut [u32; SIDE]) -> u32
     requires { ⌜ (n ≤ 32) × (j < 32) × (length (now lefts) ≡ 32) ⌝ }
     ensures { λ r. ⌜ Begins (λ i. remains (now (slacks .entry)) i j) n r ⌝ }
     ensures { λ r. ⌜ Included (λ i. remains (now (slacks .entry)) i j) n j (now (lefts .entry)) (now (lefts .exit)) ⌝ }
@@ -15,8 +17,8 @@ fn fill_call(slacks: &[u32; 1024], n: usize, j: usize, lefts: &mut [u32; 32]) ->
     let mut lots = 0;
     let mut i = 0;
     while i < n {
-        lefts[i] = including_if(slacks[32 * j + i] != 0, lefts[i], j);
-        lots = including_if(slacks[32 * j + i] != 0, lots, i);
+        lefts[i] = including_if(slacks[SIDE * j + i] != 0, lefts[i], j);
+        lots = including_if(slacks[SIDE * j + i] != 0, lots, i);
         i += 1;
     }
     lots
@@ -24,11 +26,11 @@ fn fill_call(slacks: &[u32; 1024], n: usize, j: usize, lefts: &mut [u32; 32]) ->
 
 // The calls that each lot is eligible for, and the lots that are eligible for each call, in arrays of zeros.
 pub fn fill_words(
-    slacks: &[u32; 1024],
+    slacks: &[u32; PAIRS],
     n: usize,
     m: usize,
-    lefts: &mut [u32; 32],
-    holders: &mut [u32; 32],
+    lefts: &mut [u32; SIDE],
+    holders: &mut [u32; SIDE],
 )
     requires { ⌜ Slacks (now slacks) n m × (now lefts ≡ replicate 32 0) × (now holders ≡ replicate 32 0) ⌝ }
     ensures { λ r. ⌜ Eligible (now (slacks .entry)) n (now (lefts .exit)) × Words (now (lefts .exit)) (now (lefts .exit)) (now (holders .exit)) ⌝ }

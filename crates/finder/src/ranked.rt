@@ -1,6 +1,8 @@
 // The search by corners, where it applies: all pairs are eligible, and the slacks are Monge by the ranks that are guessed.
 use corners::find_ranked;
 use ranks::rank;
+use slacks::PAIRS;
+use slacks::SIDE;
 use slacks::Search;
 ghost use mathlib.Core.Path.{_≡_};
 ghost use Prim.Native.Nat.{_≤_};
@@ -17,7 +19,7 @@ pub enum ByRanks {
 
 // An order of the pairs, with two bytes a pair, lot and call, at the start of the array.
 pub fn find_by_ranks(
-    slacks: &[u32; 1024],
+    slacks: &[u32; PAIRS],
     n: usize,
     m: usize,
     total: usize,
@@ -33,13 +35,13 @@ pub fn find_by_ranks(
         return ByRanks::NoRanks;
     }
     // The lots and calls by rank, and the rank of each.
-    let mut lots: [u8; 32] = [0; 32];
-    let mut lot_ranks: [u8; 32] = [0; 32];
-    let mut calls: [u8; 32] = [0; 32];
-    let mut call_ranks: [u8; 32] = [0; 32];
-    // The slacks by ranks: by lot a row of 32 calls, and turned.
-    let mut table: [u32; 1024] = [0; 1024];
-    let mut turned: [u32; 1024] = [0; 1024];
+    let mut lots: [u8; SIDE] = [0; SIDE];
+    let mut lot_ranks: [u8; SIDE] = [0; SIDE];
+    let mut calls: [u8; SIDE] = [0; SIDE];
+    let mut call_ranks: [u8; SIDE] = [0; SIDE];
+    // The slacks by ranks: by lot a row of `SIDE` calls, and turned.
+    let mut table: [u32; PAIRS] = [0; PAIRS];
+    let mut turned: [u32; PAIRS] = [0; PAIRS];
     if !rank(
         slacks,
         n,

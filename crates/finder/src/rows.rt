@@ -1,6 +1,8 @@
 // Least gaps. The gap of a lot over another at a call is the difference of their costs there, raised by one more than the limit so that it is
-// no negative number. The least gaps of a lot, over each of 32, are worked out when they are asked for, and stand while pairs are taken: they
+// no negative number. The least gaps of a lot, over each of `SIDE`, are worked out when they are asked for, and stand while pairs are taken: they
 // are then no more than the least of the gaps that are left.
+use slacks::PAIRS;
+use slacks::SIDE;
 use slacks::SLACK_MOST;
 use specification::Call;
 use specification::Lot;
@@ -25,39 +27,39 @@ fn lesser(a: u32, b: u32) -> u32
 }
 
 // Each number of the row becomes the lesser of it and the gap of the lot over its own at the call.
-fn lower_row(slacks: &[u32; 1024], lot: Lot, call: Call, row: &mut [u32; 32])
+fn lower_row(slacks: &[u32; PAIRS], lot: Lot, call: Call, row: &mut [u32; SIDE])
     requires { ⌜ Capped (now slacks) × (lot .0 < 32) × (call .0 < 32) × LowRow (now row) ⌝ }
     ensures { λ r. ⌜ Lowered (λ k. gapAt (now (slacks .entry)) (lot .0) k (call .0)) 32 (now (row .entry)) (now (row .exit)) ⌝ }
 {
     let i = lot.0;
     let l = call.0;
-    let cost = SLACK_MOST - slacks[32 * l + i];
+    let cost = SLACK_MOST - slacks[SIDE * l + i];
     let mut k = 0;
-    while k < 32 {
-        row[k] = lesser(row[k], cost + slacks[32 * l + k]);
+    while k < SIDE {
+        row[k] = lesser(row[k], cost + slacks[SIDE * l + k]);
         k += 1;
     }
 }
 
 // The row becomes the row of lot i.
-fn copy_row(row: &[u32; 32], i: usize, least: &mut [u32; 1024])
+fn copy_row(row: &[u32; SIDE], i: usize, least: &mut [u32; PAIRS])
     requires { ⌜ (i < 32) × (length (now least) ≡ 1024) ⌝ }
     ensures { λ r. ⌜ Filled i (λ k. getD (now (row .entry)) k 0) 32 (now (least .entry)) (now (least .exit)) ⌝ }
 {
     let mut k = 0;
-    while k < 32 {
-        least[32 * i + k] = row[k];
+    while k < SIDE {
+        least[SIDE * i + k] = row[k];
         k += 1;
     }
 }
 
 // The least gaps of lot i over the calls in the word.
-fn work_out(slacks: &[u32; 1024], left: u32, i: usize, least: &mut [u32; 1024])
+fn work_out(slacks: &[u32; PAIRS], left: u32, i: usize, least: &mut [u32; PAIRS])
     requires { ⌜ Capped (now slacks) × (i < 32) × (length (now least) ≡ 1024) ⌝ }
     ensures { λ r. ⌜ WorkedOut (now (slacks .entry)) left i (now (least .entry)) (now (least .exit)) ⌝ }
 {
     // By lot: the least gap over it so far.
-    let mut row: [u32; 32] = [GAP_TOP; 32];
+    let mut row: [u32; SIDE] = [GAP_TOP; SIDE];
     let mut calls = left;
     while 0 < calls {
         let l = lowest(calls);
@@ -69,11 +71,11 @@ fn work_out(slacks: &[u32; 1024], left: u32, i: usize, least: &mut [u32; 1024])
 
 // The least gaps of the lot are worked out, unless they stand for the calls left to it.
 pub fn freshen(
-    slacks: &[u32; 1024],
-    lefts: &[u32; 32],
+    slacks: &[u32; PAIRS],
+    lefts: &[u32; SIDE],
     lot: Lot,
-    least: &mut [u32; 1024],
-    worked: &mut [u32; 32],
+    least: &mut [u32; PAIRS],
+    worked: &mut [u32; SIDE],
 )
     requires { ⌜ Capped (now slacks) × (lot .0 < 32) × Rows (now slacks) (now lefts) (now worked) (now least) ⌝ }
     ensures { λ r. ⌜ Rows (now (slacks .entry)) (now (lefts .entry)) (now (worked .exit)) (now (least .exit)) ⌝ }

@@ -6,6 +6,8 @@ use super::waiting::Next;
 use super::waiting::ask_again;
 use super::waiting::first_pair;
 use super::writing::write_order;
+use slacks::PAIRS;
+use slacks::SIDE;
 use slacks::Search;
 use slacks::put;
 use specification::Call;
@@ -21,16 +23,16 @@ ghost use Rattle.slacks.specs.Found.{Finds};
 ghost use Rattle.finder.specs.Writing.{Orders};
 
 // The mark of a pair that is taken: it names no lot, so that the pair is not asked for again.
-const TAKEN: u8 = 33;
+const TAKEN: u8 = SIDE as u8 + 1;
 
 // The pair is taken: it leaves the words of its lot and its call, and the pairs that may be free then are to be tried.
 fn take_pair(
     lot: Lot,
     call: Call,
-    lefts: &mut [u32; 32],
-    holders: &mut [u32; 32],
-    waits: &mut [u8; 1024],
-    asks: &mut [u32; 32],
+    lefts: &mut [u32; SIDE],
+    holders: &mut [u32; SIDE],
+    waits: &mut [u8; PAIRS],
+    asks: &mut [u32; SIDE],
 )
     requires { ⌜ Taking (lot .0) (call .0) (now lefts) (now holders) (now waits) (now asks) ⌝ }
     ensures { λ r. ⌜ Taken (lot .0) (call .0) (now (lefts .entry)) (now (lefts .exit)) (now (holders .entry)) (now (holders .exit))
@@ -41,32 +43,32 @@ fn take_pair(
     let left = without(lefts[i], j);
     lefts[i] = left;
     holders[j] = without(holders[j], i);
-    waits[32 * j + i] = TAKEN;
+    waits[SIDE * j + i] = TAKEN;
     ask_again(waits, Lot(i), Call(j), asks);
     asks[i] = left;
 }
 
 // An order of the eligible pairs: the count of its pairs, with two bytes a pair, lot and call, at the start of the array; or nothing where
 // there is none.
-fn find_pairs(slacks: &[u32; 1024], n: usize, m: usize, total: usize, pairs: &mut [u8]) -> Search
+fn find_pairs(slacks: &[u32; PAIRS], n: usize, m: usize, total: usize, pairs: &mut [u8]) -> Search
     requires { ⌜ Slacks (now slacks) n m × (total ≡ size (bySlacks (now slacks) n m)) × (2048 ≤ length (now pairs)) ⌝ }
     ensures { λ r. ⌜ Finds (find (bySlacks (now (slacks .entry)) n m)) r (now (pairs .exit)) ⌝ }
 {
-    // By lot, 32 at most: the calls left to it.
-    let mut lefts: [u32; 32] = [0; 32];
-    // By call, 32 at most: the lots that still have it.
-    let mut holders: [u32; 32] = [0; 32];
+    // By lot, `SIDE` at most: the calls left to it.
+    let mut lefts: [u32; SIDE] = [0; SIDE];
+    // By call, `SIDE` at most: the lots that still have it.
+    let mut holders: [u32; SIDE] = [0; SIDE];
     fill_words(slacks, n, m, &mut lefts, &mut holders);
     // By lot: the calls that it is eligible for.
     let eligible = lefts;
     // By lot: the calls that it is to be asked for.
     let mut asks = lefts;
-    // By lot, a row of 32 lots: its least gaps over them.
-    let mut least: [u32; 1024] = [0; 1024];
+    // By lot, a row of `SIDE` lots: its least gaps over them.
+    let mut least: [u32; PAIRS] = [0; PAIRS];
     // By lot: the calls that its least gaps were worked out for, none at first.
-    let mut worked: [u32; 32] = [0; 32];
-    // By call, a row of 32 lots: a mark for each pair, 0 until it is hindered, then one more than the lot that hinders it, then `TAKEN`.
-    let mut waits: [u8; 1024] = [0; 1024];
+    let mut worked: [u32; SIDE] = [0; SIDE];
+    // By call, a row of `SIDE` lots: a mark for each pair, 0 until it is hindered, then one more than the lot that hinders it, then `TAKEN`.
+    let mut waits: [u8; PAIRS] = [0; PAIRS];
     let mut count = 0;
     while count < total {
         let next = first_pair(
@@ -100,7 +102,7 @@ fn find_pairs(slacks: &[u32; 1024], n: usize, m: usize, total: usize, pairs: &mu
 }
 
 // The same, by corners where that search applies, and else by least gaps.
-fn find_any(slacks: &[u32; 1024], n: usize, m: usize, total: usize, pairs: &mut [u8]) -> Search
+fn find_any(slacks: &[u32; PAIRS], n: usize, m: usize, total: usize, pairs: &mut [u8]) -> Search
     requires { ⌜ Slacks (now slacks) n m × (total ≡ size (bySlacks (now slacks) n m)) × (2048 ≤ length (now pairs)) ⌝ }
     ensures { λ r. ⌜ Finds (find (bySlacks (now (slacks .entry)) n m)) r (now (pairs .exit)) ⌝ }
 {
@@ -113,7 +115,7 @@ fn find_any(slacks: &[u32; 1024], n: usize, m: usize, total: usize, pairs: &mut 
 
 // The order file of the order that is found; where there is none, nothing, and the buffer as it was.
 pub fn find_by_slacks(
-    slacks: &[u32; 1024],
+    slacks: &[u32; PAIRS],
     n: usize,
     m: usize,
     total: usize,
@@ -122,8 +124,8 @@ pub fn find_by_slacks(
     requires { ⌜ Slacks (now slacks) n m × (total ≡ size (bySlacks (now slacks) n m)) × (7 + 2 * total ≤ length (now buffer)) ⌝ }
     ensures { λ r. ⌜ Orders (find (bySlacks (now (slacks .entry)) n m)) r (now (buffer .entry)) (now (buffer .exit)) ⌝ }
 {
-    // By place in the order, two bytes for each of at most 1,024 pairs.
-    let mut pairs: [u8; 2048] = [0; 2048];
+    // By place in the order, two bytes for each of at most `PAIRS` pairs.
+    let mut pairs: [u8; 2 * PAIRS] = [0; 2 * PAIRS];
     let found = find_any(slacks, n, m, total, &mut pairs);
     let Search::Found(count) = found else {
         return Search::Nothing;

@@ -1,6 +1,8 @@
 // The pair to take next. For each pair it is kept which lot hindered it, and for each lot the word of the calls to ask it for: its pairs with
 // all others that are left are hindered.
 use super::rows::freshen;
+use slacks::PAIRS;
+use slacks::SIDE;
 use slacks::SLACK_MOST;
 use specification::Call;
 use specification::Lot;
@@ -28,14 +30,14 @@ pub enum Next {
 // Whether a lot that still has the call hinders the pair: it is not eligible for a call left to the pair's lot, or the gap over it is not the
 // least of those at these calls. Where the gap is no more than a least gap that stands from before, it is the least.
 fn hinders(
-    slacks: &[u32; 1024],
-    eligible: &[u32; 32],
-    lefts: &[u32; 32],
+    slacks: &[u32; PAIRS],
+    eligible: &[u32; SIDE],
+    lefts: &[u32; SIDE],
     lot: Lot,
     call: Call,
     other: Lot,
-    least: &mut [u32; 1024],
-    worked: &mut [u32; 32],
+    least: &mut [u32; PAIRS],
+    worked: &mut [u32; SIDE],
 ) -> bool
     requires { ⌜ Asking (now slacks) (now lefts) (now least) (now worked) (lot .0) (call .0) (other .0) ⌝ }
     ensures { λ r. ⌜ Told (now (slacks .entry)) (now (eligible .entry)) (now (lefts .entry)) (lot .0) (call .0) (other .0) r ⌝ }
@@ -47,12 +49,12 @@ fn hinders(
     if 0 < minus(lefts[i], eligible[k]) {
         return true;
     }
-    let gap = SLACK_MOST - slacks[32 * j + i] + slacks[32 * j + k];
-    if gap <= least[32 * i + k] {
+    let gap = SLACK_MOST - slacks[SIDE * j + i] + slacks[SIDE * j + k];
+    if gap <= least[SIDE * i + k] {
         return false;
     }
     freshen(slacks, lefts, Lot(i), least, worked);
-    least[32 * i + k] < gap
+    least[SIDE * i + k] < gap
 }
 
 // The lot that a mark names, from which on a pair is tried, or 0.
@@ -68,15 +70,15 @@ fn named(mark: u8) -> usize
 // Whether the pair, which is left, can be taken: the last of its lot, or one that no lot hinders. If not, its mark becomes that of the lowest lot
 // that hinders it.
 fn try_call(
-    slacks: &[u32; 1024],
-    eligible: &[u32; 32],
-    lefts: &[u32; 32],
-    holders: &[u32; 32],
+    slacks: &[u32; PAIRS],
+    eligible: &[u32; SIDE],
+    lefts: &[u32; SIDE],
+    holders: &[u32; SIDE],
     lot: Lot,
     call: Call,
-    least: &mut [u32; 1024],
-    worked: &mut [u32; 32],
-    waits: &mut [u8; 1024],
+    least: &mut [u32; PAIRS],
+    worked: &mut [u32; SIDE],
+    waits: &mut [u8; PAIRS],
 ) -> bool
     requires { ⌜ Trying (now slacks) (now eligible) (now lefts) (now holders) (now least) (now worked) (lot .0) (call .0) ⌝ }
     requires { ⌜ Waits (now slacks) (now eligible) (now lefts) (now waits) ⌝ }
@@ -89,7 +91,7 @@ fn try_call(
     if without(lefts[i], j) == 0 {
         return true;
     }
-    let passed = below(holders[j], named(waits[32 * j + i]));
+    let passed = below(holders[j], named(waits[SIDE * j + i]));
     let mut lots = without(minus(holders[j], passed), i);
     while 0 < lots {
         let k = lowest(lots);
@@ -103,7 +105,7 @@ fn try_call(
             least,
             worked,
         ) {
-            waits[32 * j + i] = (k + 1) as u8;
+            waits[SIDE * j + i] = (k + 1) as u8;
             return false;
         }
         lots = without(lots, k);
@@ -111,17 +113,17 @@ fn try_call(
     true
 }
 
-// The lowest call whose pair with lot i can be taken, or 32. Only the calls in its word are tried, and each that is hindered leaves it.
+// The lowest call whose pair with lot i can be taken, or `SIDE`. Only the calls in its word are tried, and each that is hindered leaves it.
 fn first_call(
-    slacks: &[u32; 1024],
-    eligible: &[u32; 32],
-    lefts: &[u32; 32],
-    holders: &[u32; 32],
+    slacks: &[u32; PAIRS],
+    eligible: &[u32; SIDE],
+    lefts: &[u32; SIDE],
+    holders: &[u32; SIDE],
     i: usize,
-    least: &mut [u32; 1024],
-    worked: &mut [u32; 32],
-    waits: &mut [u8; 1024],
-    asks: &mut [u32; 32],
+    least: &mut [u32; PAIRS],
+    worked: &mut [u32; SIDE],
+    waits: &mut [u8; PAIRS],
+    asks: &mut [u32; SIDE],
 ) -> usize
     requires { ⌜ i < 32 ⌝ }
     requires { ⌜ Holding (now slacks) (now eligible) (now lefts) (now holders) (now least) (now worked) (now waits) (now asks) ⌝ }
@@ -146,20 +148,20 @@ fn first_call(
         }
         asks[i] = without(asks[i], j);
     }
-    32
+    SIDE
 }
 
 // The pair to take next: the lowest lot's that has one that can be taken.
 pub fn first_pair(
-    slacks: &[u32; 1024],
+    slacks: &[u32; PAIRS],
     n: usize,
-    eligible: &[u32; 32],
-    lefts: &[u32; 32],
-    holders: &[u32; 32],
-    least: &mut [u32; 1024],
-    worked: &mut [u32; 32],
-    waits: &mut [u8; 1024],
-    asks: &mut [u32; 32],
+    eligible: &[u32; SIDE],
+    lefts: &[u32; SIDE],
+    holders: &[u32; SIDE],
+    least: &mut [u32; PAIRS],
+    worked: &mut [u32; SIDE],
+    waits: &mut [u8; PAIRS],
+    asks: &mut [u32; SIDE],
 ) -> Next
     requires { ⌜ n ≤ 32 ⌝ }
     requires { ⌜ Holding (now slacks) (now eligible) (now lefts) (now holders) (now least) (now worked) (now waits) (now asks) ⌝ }
@@ -180,7 +182,7 @@ pub fn first_pair(
             waits,
             asks,
         );
-        if j < 32 {
+        if j < SIDE {
             return Next::Pair(Lot(i), Call(j));
         }
         i += 1;
@@ -189,7 +191,7 @@ pub fn first_pair(
 }
 
 // Each lot whose pair with the call waits for the lot is to be asked for that call.
-pub fn ask_again(waits: &[u8; 1024], lot: Lot, call: Call, asks: &mut [u32; 32])
+pub fn ask_again(waits: &[u8; PAIRS], lot: Lot, call: Call, asks: &mut [u32; SIDE])
     requires { ⌜ (lot .0 < 32) × (call .0 < 32) × (length (now asks) ≡ 32) ⌝ }
     ensures { λ r. ⌜ Included (λ k. eqb (entry (now (waits .entry)) (call .0) k) (lot .0 + 1)) 32 (call .0)
         (now (asks .entry)) (now (asks .exit)) ⌝ }
@@ -198,8 +200,8 @@ pub fn ask_again(waits: &[u8; 1024], lot: Lot, call: Call, asks: &mut [u32; 32])
     let j = call.0;
     let for_it = (i + 1) as u8;
     let mut k = 0;
-    while k < 32 {
-        asks[k] = including_if(waits[32 * j + k] == for_it, asks[k], j);
+    while k < SIDE {
+        asks[k] = including_if(waits[SIDE * j + k] == for_it, asks[k], j);
         k += 1;
     }
 }

@@ -4,6 +4,8 @@ mod guess;
 use files::wide;
 use guess::guess;
 use guess::one_if_below;
+use slacks::PAIRS;
+use slacks::SIDE;
 ghost use mathlib.Core.Path.{_≡_};
 ghost use mathlib.Core.Bool.{true};
 ghost use Prim.Native.Nat.{ℕ, _+_, _≤_, _<_};
@@ -15,7 +17,7 @@ ghost use Rattle.ranks.specs.Ranked.{byRanks, MongeBy, Ranking};
 ghost use Rattle.ranks.specs.Laid.{Complete, LeadsBack, Undoes, LaidOut, FitsNext};
 
 // Whether the number at x is below n and its own leads back to x.
-fn leads_back(to: &[u8; 32], back: &[u8; 32], n: usize, x: usize) -> bool
+fn leads_back(to: &[u8; SIDE], back: &[u8; SIDE], n: usize, x: usize) -> bool
     requires { ⌜ (n ≤ 32) × (x < n) ⌝ }
     ensures { λ r. ⌜ (r ≡ true → LeadsBack (now (to .entry)) (now (back .entry)) n x) ⌝ }
 {
@@ -27,7 +29,7 @@ fn leads_back(to: &[u8; 32], back: &[u8; 32], n: usize, x: usize) -> bool
 }
 
 // Whether this holds of each number below n.
-fn undoes(to: &[u8; 32], back: &[u8; 32], n: usize) -> bool
+fn undoes(to: &[u8; SIDE], back: &[u8; SIDE], n: usize) -> bool
     requires { ⌜ n ≤ 32 ⌝ }
     ensures { λ r. ⌜ (r ≡ true → Undoes (now (to .entry)) (now (back .entry)) n) ⌝ }
 {
@@ -42,7 +44,7 @@ fn undoes(to: &[u8; 32], back: &[u8; 32], n: usize) -> bool
 }
 
 // Whether two arrays name the numbers below n anew: the ones of the ranks, and their ranks.
-fn renames(names: &[u8; 32], ranks: &[u8; 32], n: usize) -> bool
+fn renames(names: &[u8; SIDE], ranks: &[u8; SIDE], n: usize) -> bool
     requires { ⌜ n ≤ 32 ⌝ }
     ensures { λ r. ⌜ (r ≡ true → Renames n (λ i. getD (now (ranks .entry)) i 0) (λ p. getD (now (names .entry)) p 0)) ⌝ }
 {
@@ -54,13 +56,13 @@ fn renames(names: &[u8; 32], ranks: &[u8; 32], n: usize) -> bool
 
 // The slacks of the call of rank q are laid out.
 fn lay_call(
-    slacks: &[u32; 1024],
+    slacks: &[u32; PAIRS],
     n: usize,
     q: usize,
-    lots: &[u8; 32],
-    calls: &[u8; 32],
-    table: &mut [u32; 1024],
-    turned: &mut [u32; 1024],
+    lots: &[u8; SIDE],
+    calls: &[u8; SIDE],
+    table: &mut [u32; PAIRS],
+    turned: &mut [u32; PAIRS],
 )
     requires { ⌜ Capped (now slacks) × (n ≤ 32) × (q < 32) × (getD (now calls) q 0 < 32)
         × ((p : ℕ) → p < n → getD (now lots) p 0 < 32) ⌝ }
@@ -70,22 +72,22 @@ fn lay_call(
     let call = wide(calls[q]);
     let mut p = 0;
     while p < n {
-        let slack = slacks[32 * call + wide(lots[p])];
-        table[32 * p + q] = slack;
-        turned[32 * q + p] = slack;
+        let slack = slacks[SIDE * call + wide(lots[p])];
+        table[SIDE * p + q] = slack;
+        turned[SIDE * q + p] = slack;
         p += 1;
     }
 }
 
 // The slacks of all pairs are laid out by ranks, in both tables.
 fn lay_out(
-    slacks: &[u32; 1024],
+    slacks: &[u32; PAIRS],
     n: usize,
     m: usize,
-    lots: &[u8; 32],
-    calls: &[u8; 32],
-    table: &mut [u32; 1024],
-    turned: &mut [u32; 1024],
+    lots: &[u8; SIDE],
+    calls: &[u8; SIDE],
+    table: &mut [u32; PAIRS],
+    turned: &mut [u32; PAIRS],
 )
     requires { ⌜ Capped (now slacks) × (n ≤ 32) × (m ≤ 32)
         × ((p : ℕ) → p < n → getD (now lots) p 0 < 32) × ((q : ℕ) → q < m → getD (now calls) q 0 < 32) ⌝ }
@@ -100,18 +102,18 @@ fn lay_out(
 }
 
 // 1 where the neighbours from (p, q) on do not fit, and else 0.
-fn misfit(table: &[u32; 1024], p: usize, q: usize) -> u32
+fn misfit(table: &[u32; PAIRS], p: usize, q: usize) -> u32
     requires { ⌜ Capped (now table) × (p < 31) × (q < 31) ⌝ }
     ensures { λ r. ⌜ (r ≤ 1) × (r ≡ 0 → FitsNext (now (table .entry)) p q) ⌝ }
 {
     one_if_below(
-        table[32 * p + q] + table[32 * (p + 1) + (q + 1)],
-        table[32 * p + (q + 1)] + table[32 * (p + 1) + q],
+        table[SIDE * p + q] + table[SIDE * (p + 1) + (q + 1)],
+        table[SIDE * p + (q + 1)] + table[SIDE * (p + 1) + q],
     )
 }
 
 // How many neighbours in rows p and p + 1 do not fit.
-fn misfits(table: &[u32; 1024], m: usize, p: usize) -> u32
+fn misfits(table: &[u32; PAIRS], m: usize, p: usize) -> u32
     requires { ⌜ Capped (now table) × (m ≤ 32) × (p < 31) ⌝ }
     ensures { λ r. ⌜ (r ≡ 0 → (q : ℕ) → q + 1 < m → FitsNext (now (table .entry)) p q) ⌝ }
 {
@@ -125,7 +127,7 @@ fn misfits(table: &[u32; 1024], m: usize, p: usize) -> u32
 }
 
 // Whether the table is Monge, by its neighbours.
-fn is_monge(table: &[u32; 1024], n: usize, m: usize) -> bool
+fn is_monge(table: &[u32; PAIRS], n: usize, m: usize) -> bool
     requires { ⌜ Capped (now table) × (n ≤ 32) × (m ≤ 32) ⌝ }
     ensures { λ r. ⌜ (r ≡ true → MongeBy (now (table .entry)) n m) ⌝ }
 {
@@ -141,15 +143,15 @@ fn is_monge(table: &[u32; 1024], n: usize, m: usize) -> bool
 
 // The lots and calls by rank, and the slacks laid out by ranks; whether they are Monge so.
 pub fn rank(
-    slacks: &[u32; 1024],
+    slacks: &[u32; PAIRS],
     n: usize,
     m: usize,
-    lots: &mut [u8; 32],
-    lot_ranks: &mut [u8; 32],
-    calls: &mut [u8; 32],
-    call_ranks: &mut [u8; 32],
-    table: &mut [u32; 1024],
-    turned: &mut [u32; 1024],
+    lots: &mut [u8; SIDE],
+    lot_ranks: &mut [u8; SIDE],
+    calls: &mut [u8; SIDE],
+    call_ranks: &mut [u8; SIDE],
+    table: &mut [u32; PAIRS],
+    turned: &mut [u32; PAIRS],
 ) -> bool
     requires { ⌜ Slacks (now slacks) n m × Complete (now slacks) n m ⌝ }
     requires { ⌜ (length (now table) ≡ 1024) × (length (now turned) ≡ 1024) × Capped (now table) × Capped (now turned) ⌝ }

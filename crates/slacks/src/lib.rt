@@ -1,4 +1,4 @@
-// What both searches for an order share. They go through a table of slacks: how far a pair's cost lies below one more than the limit, at 32 times
+// What both searches for an order share. They go through a table of slacks: how far a pair's cost lies below one more than the limit, at `SIDE` times
 // call plus lot, and 0 where the pair is not eligible. They answer with the bytes of the pairs that they found.
 use specification::COST_LIMIT;
 use specification::Call;
@@ -7,6 +7,12 @@ ghost use mathlib.Core.Path.{_≡_};
 ghost use mathlib.Core.List.{[], _∷_, _++_};
 ghost use Prim.Native.Nat.{_+_, _*_, _≤_, _<_};
 ghost use lib.ListN.{length, take};
+
+// How many lots, and how many calls, the tables have room for. A word of 32 bits holds a row, so it is at most 32.
+pub const SIDE: usize = 32;
+
+// How many pairs they have room for.
+pub const PAIRS: usize = SIDE * SIDE;
 
 // The highest slack, that of a cost of 0: one more than the limit, so that each eligible pair has some.
 pub const SLACK_MOST: u32 = COST_LIMIT + 1;

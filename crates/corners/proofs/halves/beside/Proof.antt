@@ -12,4 +12,4 @@ returns-2 : tie.Need-returns-2
 returns-2 c = rw (c .if1 .left) (refl, omega arith)
 
 pub beside-spec : {M : Type 1} → statement M
-beside-spec = tie.close (tie.spec (λ c. search needs) (λ c. search needs) returns returns-2)
+beside-spec = tie.close (tie.spec (λ c. search needs) (λ c. search needs) (λ c. search needs) returns returns-2)
