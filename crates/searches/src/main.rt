@@ -118,12 +118,24 @@ fn fill_row(book: &mut [u8; 4231], lot: usize)
 
 // 32 by 32: the pairs of lots 0 to 16 are not free, by the very last test of each, until lots 17 to 30 are used up. A finder that starts
 // again from the first pair at each turn makes 184 million tests.
-fn long_search() -> [u8; 4231] {
+fn long_search() -> [u8; 4231]
+    ensures { λ r. ⌜ 4231 ≡ length r ⌝ }
+{
     let mut book = [0u8; 4231];
     files::write_opening(&mut book, &files::BOOK_MARK, 32 + 256 * 32);
     for lot in 0..32 {
         fill_row(&mut book, lot);
     }
+    book
+}
+
+// The same without its last pair, (31, 31), in the first 4,227 bytes: not all pairs are eligible, so that it takes the search by least gaps.
+fn long_search_with_gap() -> [u8; 4231]
+    ensures { λ r. ⌜ 4231 ≡ length r ⌝ }
+{
+    let mut book = long_search();
+    // The highest byte of the last lot's word.
+    book[7 + 132 * 31 + 3] = 127;
     book
 }
 
@@ -188,12 +200,25 @@ fn show_anew() {
     show_in(b"P56", &F7, 40);
 }
 
+// A search that is long for a plain scan, by corners.
+fn show_long() {
+    let mut order = [170u8; 2060];
+    show(b"P57", &long_search(), &mut order);
+}
+
+// The same by least gaps.
+fn show_long_with_gap() {
+    let mut order = [170u8; 2060];
+    let book = long_search_with_gap();
+    show(b"P57", &book[..4227], &mut order);
+}
+
 fn main() {
     show_examples();
     show_no_order();
     show_free_pairs();
     show_lengths();
     show_anew();
-    let mut order = [170u8; 2060];
-    show(b"P57", &long_search(), &mut order);
+    show_long();
+    show_long_with_gap();
 }
