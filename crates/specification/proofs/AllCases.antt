@@ -10,7 +10,7 @@ use Rattle.transport.specs.Problem.{sum}
 use Rattle.transport.specs.Greedy.{Pair, pair, giveAll}
 use Rattle.transport.specs.Order.{times}
 use Rattle.transport.specs.Finder.{every, first, takeFrom}
-use Rattle.specification.specs.Reply.{gives, refuses, full}
+use Rattle.specification.specs.Reply.{gives, refuses, full, covered, short}
 use Rattle.specification.specs.Bytes.{u16At, u32At, bookMark, amountsMark, readOpening}
 use Rattle.specification.specs.Book.{readCosts, readRow, readRows, readBook, rowAt, problemOf, lotCosts}
 use Rattle.specification.specs.OrderFile.{pairs, pairBytes, orderFile}
@@ -119,6 +119,11 @@ pub record OtherCases : Type 0 where
   pub no-order : findAndRun bookDiagonal (amounts 3 3 (0 ∷ 0 ∷ 0 ∷ 0 ∷ 0 ∷ 0 ∷ [])) (replicate 9 7) ≡ refuses 13 []
   -- entry i times m plus j, where n and m differ
   pub one-by-two : findAndRunFlow (book 1 2 (3 ∷ 0 ∷ 0 ∷ [])) (amounts 1 2 (5 ∷ 2 ∷ 3 ∷ [])) (9 ∷ 9 ∷ 9 ∷ []) ≡ 2 ∷ 3 ∷ 9 ∷ []
+  -- Covered where no call asks for any of the stock; Short where a call lacks a unit though a lot has one left
+  pub nothing-asked : findAndRun bookGap (amounts 2 2 (2 ∷ 0 ∷ 0 ∷ 0 ∷ [])) (replicate 4 7)
+      ≡ gives (record { verdict = covered; units = 0; cost = 0 })
+  pub lacks-and-left : findAndRun bookGap (amounts 2 2 (1 ∷ 2 ∷ 1 ∷ 2 ∷ [])) (replicate 4 7)
+      ≡ gives (record { verdict = short; units = 2; cost = 0 })
   -- F12
   pub largest : findAndRun (single highestCost) (singles highestAmount) (0 ∷ [])
       ≡ gives (record { verdict = full; units = 1000000000; cost = 1000000000000000 })
@@ -128,12 +133,18 @@ pub record OtherCases : Type 0 where
   pub order-mark : take 3 (orderFile []) ≡ 67 ∷ 76 ∷ 79 ∷ []
   -- the printed refusal is its number alone: REFUSED 5
   pub printed-refusal : printed (book 1 2 (4 ∷ [])) [] ≡ 82 ∷ 69 ∷ 70 ∷ 85 ∷ 83 ∷ 69 ∷ 68 ∷ 32 ∷ 53 ∷ 10 ∷ []
-  -- SHORT 111 0, lots 0 and 1 with call 0; FULL 5 0, lot 0 with calls 0 and 1
+  -- SHORT 111 0, lots 0 and 1 with call 0
   pub printed-short : printed (book 2 1 (1 ∷ 0 ∷ 1 ∷ 0 ∷ [])) (amounts 2 1 (100 ∷ 11 ∷ 120 ∷ []))
       ≡ 83 ∷ 72 ∷ 79 ∷ 82 ∷ 84 ∷ 32 ∷ 49 ∷ 49 ∷ 49 ∷ 32 ∷ 48 ∷ 10
       ∷ 48 ∷ 32 ∷ 48 ∷ 32 ∷ 49 ∷ 48 ∷ 48 ∷ 10
       ∷ 49 ∷ 32 ∷ 48 ∷ 32 ∷ 49 ∷ 49 ∷ 10
       ∷ []
+  -- COVERED 1 0, lot 0 with call 0 (F8)
+  pub printed-covered : printed bookGap (amounts 2 2 (2 ∷ 0 ∷ 1 ∷ 0 ∷ []))
+      ≡ 67 ∷ 79 ∷ 86 ∷ 69 ∷ 82 ∷ 69 ∷ 68 ∷ 32 ∷ 49 ∷ 32 ∷ 48 ∷ 10
+      ∷ 48 ∷ 32 ∷ 48 ∷ 32 ∷ 49 ∷ 10
+      ∷ []
+  -- FULL 5 0, lot 0 with calls 0 and 1
   pub printed-in-two-columns : printed (book 1 2 (3 ∷ 0 ∷ 0 ∷ [])) (amounts 1 2 (5 ∷ 2 ∷ 3 ∷ []))
       ≡ 70 ∷ 85 ∷ 76 ∷ 76 ∷ 32 ∷ 53 ∷ 32 ∷ 48 ∷ 10
       ∷ 48 ∷ 32 ∷ 48 ∷ 32 ∷ 50 ∷ 10
@@ -173,12 +184,15 @@ other-cases =
       short-before-13 = refl;
       no-order = refl;
       one-by-two = refl;
+      nothing-asked = refl;
+      lacks-and-left = refl;
       largest = refl;
       book-mark = refl;
       amounts-mark = refl;
       order-mark = refl;
       printed-refusal = refl;
       printed-short = refl;
+      printed-covered = refl;
       printed-in-two-columns = refl;
       printed-largest = refl;
     }

@@ -14,6 +14,7 @@ pub mod Crossing  -- the check's second half: the quadruples
 pub mod Checks  -- what checking an order says
 pub mod OrderFiles  -- the file of a list of pairs, read back
 pub mod Flows  -- the flow that a run writes, and its sums
+pub mod Verdicts  -- what a verdict says of GREEDY's last state
 pub mod Runs  -- what running an order says, of every order that passes
 pub mod Finds  -- what finding an order says
 pub mod FindRuns  -- finding and running in one call is the run by the order found

@@ -1,30 +1,27 @@
 -- What running an order says: the order passes, the amounts are read and the flow buffer is long enough, and the outcome and the flow
 -- are GREEDY's. What holds of every order that passes is proved here: by the theorems on Monge sequences its runs are Full exactly when
--- some allocation meets everything, and no allocation has more units, or costs less where it meets everything.
+-- some allocation meets everything, Covered or Full exactly when one meets every call, and no allocation has more units, or costs less
+-- where it meets everything.
 use mathlib.Core.Path.{_≡_, refl, _∙_, ap}
-use mathlib.Core.Logic.{_⊎_, inl, inr, _↔_, Iff·trans}
-use mathlib.Core.Bool.{Bool, true, false, cond}
+use mathlib.Core.Logic.{_⊎_, inl, inr, Iff·trans, Iff·symm}
 use mathlib.Core.List.{List, []}
 use Prim.Native.Nat.{ℕ, _*_, _≤_, _<_}
-use native.Mathlib.Omega.{arith}
-use lib.Dec.{T, eqb, ltb→lt, nltb→le, eqb→eq}
+use lib.Dec.{ltb→lt, nltb→le}
 use lib.ListN.{length}
 use Rattle.transport.specs.Problem.{Problem}
 use Rattle.transport.specs.Greedy.{State}
-use Rattle.transport.specs.Finder.{every}
-use Rattle.transport.proofs.Laws.Tests.{T-true, and-says, and-of}
-use Rattle.transport.proofs.Laws.Searches.{every-says, every-of}
 use Rattle.transport.proofs.Orders.Lists.{lists-of-order}
-use Rattle.transport.proofs.Greedy.Given.{Spent, greedy-allocation}
+use Rattle.transport.proofs.Greedy.Given.{greedy-allocation}
 use Rattle.transport.proofs.Greedy.Optimal.{greedy-most-units, greedy-least-cost, good-of-monge}
-use Rattle.transport.proofs.Theorems.{greedy-spends-iff}
+use Rattle.transport.proofs.Theorems.{greedy-meets-iff-spent, greedy-spends-iff}
+use Rattle.transport.proofs.Theorems.Covered.{greedy-meets-calls-iff, greedy-covers-iff}
 use Rattle.specification.specs.declared.Refusal.the-variants as refusal
-use Rattle.specification.specs.Reply.{gives, refuses, Size, Outcome, full, short}
+use Rattle.specification.specs.Reply.{gives, refuses, Size, Outcome}
 use Rattle.specification.specs.Book.{problemOf}
 use Rattle.specification.specs.Amounts.{readAmounts, lotAmount, callAmount}
 use Rattle.specification.specs.OrderFile.{orderPairs}
 use Rattle.specification.specs.Check.{checkOrder}
-use Rattle.specification.specs.Run.{greedyOn, nothingLeft, outcome, flowOf, flowTooShort, runOrder, runFlow}
+use Rattle.specification.specs.Run.{greedyOn, outcome, flowOf, flowTooShort, runOrder, runFlow}
 use Rattle.specification.specs.Demands.{InTable, Passing, Ran, Best, ByPassing}
 use Rattle.specification.proofs.Replies.{
   Says,
@@ -41,6 +38,7 @@ use Rattle.specification.proofs.Books.{BookRead}
 use Rattle.specification.proofs.AmountsFiles.{AmountsRead, AmountsOrBookRefused, amounts-say}
 use Rattle.specification.proofs.Lines.{amounts-in-table}
 use Rattle.specification.proofs.Checks.{CheckRefused, check-says, check-in-table, check-passes}
+use Rattle.specification.proofs.Verdicts.{full-iff-spent, met-iff-none-lacks}
 use Rattle.specification.proofs.Flows.{length-flowOf, flow-at, flow-kept, units-over-flow, cost-over-flow}
 
 pub data RunRefused (book order amounts flow : List ℕ) : ℕ → List ℕ → Type 0 where
@@ -88,46 +86,25 @@ module _ (book order amounts flow : List ℕ) where
     unfolding runFlow
     run-flow-is = rw e refl
 
-    pub ran : Ran (problemOf book) (greedyOn book (orderPairs order) amounts .given) flow (runFlow book order amounts flow) o
+    pub ran : Ran (problemOf book) (lotAmount amounts) (callAmount book amounts) (greedyOn book (orderPairs order) amounts .given)
+        flow (runFlow book order amounts flow) o
     ran =
         let P : Problem = problemOf book in
-        let lists = lists-of-order (said-of-given run-says o e .passing .each-once) in
+        let each-once = said-of-given run-says o e .passing .each-once in
+        let by : State = greedyOn book (orderPairs order) amounts in
+        let (a, b) : (ℕ → ℕ) × (ℕ → ℕ) = (lotAmount amounts, callAmount book amounts) in
         rw run-flow-is (record {
           flow = flow-at P _ flow;
-          not-eligible = greedy-allocation lists (lotAmount amounts) (callAmount book amounts) .eligible-only;
+          not-eligible = greedy-allocation (lists-of-order each-once) a b .eligible-only;
           kept = flow-kept P _ flow;
           as-many = length-flowOf P _ flow (said-of-given run-says o e .long);
           its-units = ap (λ r. r .units) outcome-is;
           its-cost = ap (λ r. r .cost) outcome-is;
           units-of-flow = ap (λ r. r .units) outcome-is ∙ units-over-flow P _ flow;
           cost-of-flow = ap (λ r. r .cost) outcome-is ∙ cost-over-flow P _ flow;
+          full-told = rw outcome-is (Iff·trans (full-iff-spent P by) (Iff·symm (greedy-meets-iff-spent each-once a b)));
+          met-told = rw outcome-is (Iff·trans (met-iff-none-lacks P by) (Iff·symm (greedy-meets-calls-iff each-once a b)));
         })
-
--- Full means that nothing is left
-module _ (P : Problem) (s : State) where
-  no-lot-left : Bool
-  no-lot-left = every (P .lots) (λ i. eqb (s .left i) 0)
-
-  no-call-lacks : Bool
-  no-call-lacks = every (P .calls) (λ j. eqb (s .lacks j) 0)
-
-  full-iff-spent : (outcome P s .verdict ≡ full) ↔ Spent P s
-  unfolding no-lot-left no-call-lacks
-  full-iff-spent = (
-    λ e.
-        let (lots, calls) = and-says no-lot-left no-call-lacks (tested (nothingLeft P s) e) in
-        record {
-          lot-spent = λ i h. eqb→eq (s .left i) 0 (every-says (P .lots) _ lots i h);
-          call-spent = λ j h. eqb→eq (s .lacks j) 0 (every-says (P .calls) _ calls j h);
-        },
-    λ spent. rw (T-true (nothingLeft P s) (and-of no-lot-left no-call-lacks
-        (every-of (P .lots) _ (λ i h. rw (spent .lot-spent i h) tt))
-        (every-of (P .calls) _ (λ j h. rw (spent .call-spent j h) tt)))) refl,
-  )
-    where
-      tested : (b : Bool) → cond b full short ≡ full → T b
-      tested true e = tt
-      tested false e = let z : _≡_ {A = ℕ} 0 1 = cc in absurd (omega arith)
 
 -- every order that passes is good, gives most units, and its runs are refused for the amounts or the buffer alone
 module _ (book order : List ℕ) (passing : Passing book order) where
@@ -138,7 +115,10 @@ module _ (book order : List ℕ) (passing : Passing book order) where
       let by : State = greedyOn book (orderPairs order) amounts in
       let (a, b) : (ℕ → ℕ) × (ℕ → ℕ) = (lotAmount amounts, callAmount book amounts) in
       record {
-        verdicts = record { full-iff = Iff·trans (full-iff-spent P by) (greedy-spends-iff (passing .each-once) (passing .monge) a b) };
+        verdicts = record {
+          full-iff = Iff·trans (full-iff-spent P by) (greedy-spends-iff (passing .each-once) (passing .monge) a b);
+          met-iff = Iff·trans (met-iff-none-lacks P by) (greedy-covers-iff (passing .each-once) (passing .monge) a b);
+        };
         least-cost = λ x m. greedy-least-cost (passing .each-once) (passing .monge) a b m .1;
         greatest-units = λ x h. greedy-most-units (passing .each-once) (passing .monge) a b h;
       }

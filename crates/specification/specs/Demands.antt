@@ -5,12 +5,12 @@ use mathlib.Core.List.{List, [], _∷_}
 use Prim.Native.Nat.{ℕ, _+_, _*_, _%_, _^_, _≤_, _<_}
 use lib.ListN.{length, getD, take}
 use lib.Count.{ones}
-use Rattle.transport.specs.Problem.{Problem, Eligible, sum, units, totalCost, Allocation, Meets, Within}
+use Rattle.transport.specs.Problem.{Problem, Eligible, sum, units, totalCost, Allocation, Meets, MeetsCalls, Within}
 use Rattle.transport.specs.Greedy.{Pair, greedy}
 use Rattle.transport.specs.Order.{OrderOf, Monge, Good}
 use Rattle.transport.specs.Finder.{size}
 use Rattle.specification.specs.declared.Refusal.{Refusal}
-use Rattle.specification.specs.Reply.{Reply, gives, refuses, stated, Size, Outcome, full}
+use Rattle.specification.specs.Reply.{Reply, gives, refuses, stated, Size, Outcome, full, covered}
 use Rattle.specification.specs.Bytes.{u32At, orderMark, readOpening}
 use Rattle.specification.specs.Book.{costLimit, largestBook, rowWord, readBook, rowAt, problemOf, lotCosts, costs, notEligible, outside, pairCost}
 use Rattle.specification.specs.Amounts.{amountLimit, readAmounts, lotAmount, callAmount}
@@ -92,8 +92,8 @@ flowUnits P flow = sum (P .lots) (λ i. sum (P .calls) (λ j. getD flow (i * P .
 abbrev pub flowCost : Problem → List ℕ → ℕ
 flowCost P flow = sum (P .lots) (λ i. sum (P .calls) (λ j. getD flow (i * P .calls + j) 0 * P .cost i j))
 
--- what an accepted run writes and replies, x being GREEDY's units of each pair
-pub record Ran (P : Problem) (x : ℕ → ℕ → ℕ) (before after : List ℕ) (o : Outcome) : Type 0 where
+-- what an accepted run on the amounts a and b writes and replies, x being GREEDY's units of each pair
+pub record Ran (P : Problem) (a b : ℕ → ℕ) (x : ℕ → ℕ → ℕ) (before after : List ℕ) (o : Outcome) : Type 0 where
   -- "a run's flow .. [is] .. their GREEDY['s]"
   pub flow : (i j : ℕ) → i < P .lots → j < P .calls → getD after (i * P .calls + j) 0 ≡ x i j
   -- "0 if not eligible" (document 01)
@@ -107,6 +107,10 @@ pub record Ran (P : Problem) (x : ℕ → ℕ → ℕ) (before after : List ℕ)
   -- and "the sums over the flow written"
   pub units-of-flow : o .units ≡ flowUnits P after
   pub cost-of-flow : o .cost ≡ flowCost P after
+  -- Full: "nothing is left in any lot or call" (document 01)
+  pub full-told : (o .verdict ≡ full) ↔ Meets P a b x
+  -- Covered or Full: "every call is met"; else "a call still lacks units" (document 02, request 1)
+  pub met-told : ((o .verdict ≡ full) ⊎ (o .verdict ≡ covered)) ↔ MeetsCalls P a b x
 
 -- "the order file that the finder wrote, which ends at the length it replied" (document 01, Words)
 abbrev pub returned : List ℕ → List ℕ → List ℕ
@@ -143,7 +147,8 @@ pub record Demand2 : Type 0 where
   pub only-these : (book order : List ℕ) (n : ℕ) → checkOrder book order ≡ gives n → Passing book order
   -- "a run's flow, units and cost are those of their GREEDY"
   pub runs : (book order amounts flow : List ℕ) (o : Outcome) → runOrder book order amounts flow ≡ gives o
-      → Ran (problemOf book) (greedyOn book (orderPairs order) amounts .given) flow (runFlow book order amounts flow) o
+      → Ran (problemOf book) (lotAmount amounts) (callAmount book amounts) (greedyOn book (orderPairs order) amounts .given)
+      flow (runFlow book order amounts flow) o
   -- "an order written by the finder passes when read back"
   pub read-back : (book buffer : List ℕ) (n : ℕ) → findOrder book buffer ≡ gives n
       → checkOrder book (returned book buffer) ≡ gives (size (problemOf book))
@@ -164,6 +169,9 @@ GoodOrder book S = OrderOf (problemOf book) S × Good amountLimit (problemOf boo
 pub record Verdicts (book amounts : List ℕ) (o : Outcome) : Type 0 where
   -- it "says Full exactly when some allocation meets everything"
   pub full-iff : (o .verdict ≡ full) ↔ ((x : ℕ → ℕ → ℕ) × Meets (problemOf book) (lotAmount amounts) (callAmount book amounts) x)
+  -- "A run that isn't refused says Covered or Full exactly when some allocation meets every call, whatever the totals" (request 1)
+  pub met-iff : ((o .verdict ≡ full) ⊎ (o .verdict ≡ covered))
+      ↔ ((x : ℕ → ℕ → ℕ) × MeetsCalls (problemOf book) (lotAmount amounts) (callAmount book amounts) x)
 
 -- what its reply says besides
 pub record Best (book amounts : List ℕ) (o : Outcome) : Type 0 where

@@ -8,7 +8,7 @@ use Rattle.transport.specs.Problem.{sum}
 use Rattle.transport.specs.Greedy.{Pair, pair, giveAll}
 use Rattle.transport.specs.Order.{times}
 use Rattle.transport.specs.Finder.{every, first, takeFrom}
-use Rattle.specification.specs.Reply.{Reply, gives, refuses, Verdict, full, short}
+use Rattle.specification.specs.Reply.{Reply, gives, refuses, Verdict, full, covered, short}
 use Rattle.specification.specs.Bytes.{u16At, u32At, bookMark, amountsMark, readOpening}
 use Rattle.specification.specs.Book.{readCosts, readRow, readRows, readBook, rowAt, problemOf}
 use Rattle.specification.specs.OrderFile.{pairs, pairBytes, orderFile}
@@ -80,7 +80,8 @@ text5436 = 70 ∷ 85 ∷ 76 ∷ 76 ∷ 32 ∷ 57 ∷ 32 ∷ 50 ∷ 52 ∷ 10
     ∷ 49 ∷ 32 ∷ 49 ∷ 32 ∷ 49 ∷ 10
     ∷ []
 
--- F1 to F11, and the text printed on F1; document 01 writes a pair as its two digits, 01 for lot 0 with call 1
+-- F1 to F11, and the text printed on F1; document 01 writes a pair as its two digits, 01 for lot 0 with call 1. "F8 becomes Covered"
+-- (document 02, request 1)
 pub record KnownExamples : Type 0 where
   pub f1-found : Finds book1235 (pair 0 1 ∷ pair 0 0 ∷ pair 1 0 ∷ pair 1 1 ∷ []) 15
   pub f1-placed : Places book1235 amounts5436 full 9 24 (9 ∷ 9 ∷ 9 ∷ 9 ∷ 9 ∷ []) (0 ∷ 5 ∷ 3 ∷ 1 ∷ 9 ∷ [])
@@ -91,7 +92,7 @@ pub record KnownExamples : Type 0 where
   pub f6 : Checks bookGap (pair 0 0 ∷ pair 0 1 ∷ pair 1 0 ∷ []) (refuses 11 (0 ∷ 0 ∷ 1 ∷ 1 ∷ []))
   pub f7-found : Finds bookGap (pair 0 1 ∷ pair 0 0 ∷ pair 1 0 ∷ []) 13
   pub f7-placed : Places bookGap (amounts 2 2 (1 ∷ 1 ∷ 1 ∷ 1 ∷ [])) full 2 0 (9 ∷ 9 ∷ 9 ∷ 9 ∷ 9 ∷ []) (0 ∷ 1 ∷ 1 ∷ 0 ∷ 9 ∷ [])
-  pub f8 : Places bookGap (amounts 2 2 (2 ∷ 0 ∷ 1 ∷ 0 ∷ [])) short 1 0 (9 ∷ 9 ∷ 9 ∷ 9 ∷ 9 ∷ []) (1 ∷ 0 ∷ 0 ∷ 0 ∷ 9 ∷ [])
+  pub f8 : Places bookGap (amounts 2 2 (2 ∷ 0 ∷ 1 ∷ 0 ∷ [])) covered 1 0 (9 ∷ 9 ∷ 9 ∷ 9 ∷ 9 ∷ []) (1 ∷ 0 ∷ 0 ∷ 0 ∷ 9 ∷ [])
   pub f9 : findOrder bookDiagonal (replicate 19 7) ≡ refuses 13 []
   pub f10-found : Finds bookEmpty [] 7
   pub f10-placed : Places bookEmpty (amounts 1 1 (1 ∷ 1 ∷ [])) short 0 0 (9 ∷ 9 ∷ []) (0 ∷ 9 ∷ [])

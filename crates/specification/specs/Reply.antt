@@ -73,11 +73,11 @@ pub record Size : Type 0 where
   pub lots : ℕ
   pub calls : ℕ
 
--- Full if nothing is left in any lot or call, else Short
+-- the "three verdicts" of a run (document 02, request 1)
 pub data Verdict : Type 0 where
-  full short : Verdict
+  full covered short : Verdict
 
--- a run's answer: Full or Short, (units, cost)
+-- a run's answer: its verdict, (units, cost)
 pub record Outcome : Type 0 where
   pub verdict : Verdict
   pub units : ℕ
@@ -93,9 +93,10 @@ abbrev pub statedChecked : Checked → Reply ℕ
 statedChecked (checked.Passes n) = gives n
 statedChecked (checked.Refused r) = refused r
 
--- Full (units, cost) or Short (units, cost)
+-- Full (units, cost), Covered (units, cost) or Short (units, cost)
 abbrev pub statedPlaced : Placed → Reply Outcome
 statedPlaced (placed.Full u c) = gives (record { verdict = full; units = u; cost = c })
+statedPlaced (placed.Covered u c) = gives (record { verdict = covered; units = u; cost = c })
 statedPlaced (placed.Short u c) = gives (record { verdict = short; units = u; cost = c })
 statedPlaced (placed.Refused r) = refused r
 

@@ -5,7 +5,7 @@ use Prim.Native.Nat.{ℕ, zero, suc, _+_, _*_, _/_, _%_}
 use lib.ListN.{take, replicate, getD}
 use lib.Dec.{ltb, eqb}
 use Rattle.transport.specs.Problem.{Problem}
-use Rattle.specification.specs.Reply.{Reply, gives, refuses, Verdict, full, short, Outcome}
+use Rattle.specification.specs.Reply.{Reply, gives, refuses, Verdict, full, covered, short, Outcome}
 use Rattle.specification.specs.Book.{largestBook, problemOf}
 use Rattle.specification.specs.Amounts.{largestAmounts}
 use Rattle.specification.specs.Find.{findAndRun, findAndRunFlow}
@@ -24,9 +24,10 @@ unfoldable pub line : List ℕ → List (List ℕ) → List ℕ
 line field [] = field ++ (10 ∷ [])
 line field (next ∷ more) = field ++ (32 ∷ line next more)
 
--- FULL and SHORT in ASCII
+-- FULL, COVERED and SHORT in ASCII: "The first printed word follows" (document 02, request 1)
 abbrev pub verdictWord : Verdict → List ℕ
 verdictWord full = 70 ∷ 85 ∷ 76 ∷ 76 ∷ []
+verdictWord covered = 67 ∷ 79 ∷ 86 ∷ 69 ∷ 82 ∷ 69 ∷ 68 ∷ []
 verdictWord short = 83 ∷ 72 ∷ 79 ∷ 82 ∷ 84 ∷ []
 
 -- REFUSED
@@ -43,7 +44,7 @@ unfoldable pub pairLines : ℕ → List ℕ → ℕ → List ℕ
 pairLines m flow zero = []
 pairLines m flow (suc n) = pairLines m flow n ++ pairLine m flow n
 
--- "The first refusal prints REFUSED and its number. Otherwise line 1 is FULL or SHORT, units, cost", then the pairs
+-- "The first refusal prints REFUSED and its number. Otherwise line 1 is" the verdict, "units, cost", then the pairs
 unfoldable pub textOf : Reply Outcome → Problem → List ℕ → List ℕ
 textOf (refuses k vs) P flow = line refusedWord (decimal k ∷ [])
 textOf (gives o) P flow =

@@ -61,9 +61,11 @@ pub enum Checked {
     Refused(Refusal),
 }
 
-// "The answer is Full (units, cost) if nothing is left in any lot or call, else Short (units, cost)" (Running an order).
+// "The answer is Full (units, cost) if nothing is left in any lot or call" (Running an order), "Covered (units, cost) when every call is met
+// and some lot has units left; Short when a call still lacks units" (document 02, request 1).
 pub enum Placed {
     Full(u64, u64),
+    Covered(u64, u64),
     Short(u64, u64),
     Refused(Refusal),
 }
