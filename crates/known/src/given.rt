@@ -1,4 +1,4 @@
-// The files of document 01's known examples, F1 to F14, and of a lot that is eligible for no call.
+// The files of document 01's known examples, F1 to F14, of a lot that is eligible for no call, and amounts with stock to spare.
 
 // 2 by 2, costs 1 2 / 3 5
 pub const F1_BOOK: [u8; 31] =
@@ -72,3 +72,10 @@ pub const LONE_BOOK: [u8; 19] = *b"CLB\x01\0\x02\x01\0\0\0\0\x01\0\0\0\0\0\0\0";
 
 // lots 1 1, call 1
 pub const LONE_AMOUNTS: [u8; 19] = *b"CLA\x01\0\x02\x01\x01\0\0\0\x01\0\0\0\x01\0\0\0";
+
+// lots 1 2, calls 1 2, for F6's book: lot 1 has a unit left, and call 1 lacks one
+pub const STRANDED_AMOUNTS: [u8; 23] =
+    *b"CLA\x01\0\x02\x02\x01\0\0\0\x02\0\0\0\x01\0\0\0\x02\0\0\0";
+
+// lots 2 0, calls 0 0
+pub const IDLE_AMOUNTS: [u8; 23] = *b"CLA\x01\0\x02\x02\x02\0\0\0\0\0\0\0\0\0\0\0\0\0\0\0";

@@ -116,7 +116,7 @@ fn orders_refused() {
     );
 }
 
-// A flow needs an entry for each lot with each call, eligible or not. A lot with no eligible pair is left over.
+// A flow needs an entry for each lot with each call, eligible or not. A lot with no eligible pair is left over, which leaves every call met.
 fn few_pairs() {
     let mut flow = [7u32; 3];
     let answer = placer::find_and_run(&given::F6_BOOK, &given::F7_AMOUNTS, &mut flow);
@@ -126,6 +126,16 @@ fn few_pairs() {
         &given::LONE_BOOK,
         &given::LONE_AMOUNTS,
     );
+}
+
+// A call that lacks a unit is Short, also where a lot has one left that is not eligible for it. Stock that no call asks for is Covered.
+fn left_and_lacking() {
+    place(
+        b"Lot left and call lacking",
+        &given::F6_BOOK,
+        &given::STRANDED_AMOUNTS,
+    );
+    place(b"Nothing asked", &given::F6_BOOK, &given::IDLE_AMOUNTS);
 }
 
 fn main() {
@@ -139,4 +149,5 @@ fn main() {
     f14();
     orders_refused();
     few_pairs();
+    left_and_lacking();
 }

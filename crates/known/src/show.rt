@@ -113,19 +113,18 @@ fn entries(flow: &[u32]) {
     }
 }
 
+fn verdict(name: &[u8], units: u64, cost: u64) {
+    word(name);
+    number(units);
+    number(cost);
+}
+
 pub fn placed(label: &[u8], entry_point: &[u8], answer: Placed, flow: &[u32]) {
     opening(label, entry_point);
     match answer {
-        Placed::Full(units, cost) => {
-            word(b" Full");
-            number(units);
-            number(cost);
-        }
-        Placed::Short(units, cost) => {
-            word(b" Short");
-            number(units);
-            number(cost);
-        }
+        Placed::Full(units, cost) => verdict(b" Full", units, cost),
+        Placed::Covered(units, cost) => verdict(b" Covered", units, cost),
+        Placed::Short(units, cost) => verdict(b" Short", units, cost),
         Placed::Refused(r) => refusal(r),
     }
     word(b", flow");

@@ -28,7 +28,7 @@ pair-line-length i j units hi hj hu =
       digits-length 20 9 units (omega arith),
     )
 
-pub first-line-length : (word : List ℕ) (units cost : ℕ) → length word ≤ 5 → units < 2 ^ 64 → cost < 2 ^ 64
+pub first-line-length : (word : List ℕ) (units cost : ℕ) → length word ≤ 7 → units < 2 ^ 64 → cost < 2 ^ 64
     → length (line word (decimal units ∷ decimal cost ∷ [])) ≤ firstMost
 first-line-length word units cost hw hu hc =
     omega (

@@ -15,7 +15,7 @@ use Rattle.placer.specs.declared.Printed.{Printed}
 -- how many bytes each piece has at most: the first line of an answer, the line of a pair, the lines of 1,024 pairs, the line of a refusal,
 -- and the whole text
 abbrev pub firstMost : ℕ
-firstMost = 48
+firstMost = 50
 
 abbrev pub pairMost : ℕ
 pairMost = 17

@@ -12,8 +12,8 @@ ghost use Rattle.specification.specs.Find.{findAndRun, findAndRunFlow};
 ghost use Rattle.specification.specs.Text.{printed};
 ghost use Rattle.placer.specs.Rendering.{Prints};
 
-// The bytes of the longest text: 48 for its first line, and 17 for the line of each of 1,024 pairs.
-pub const TEXT_MOST: usize = 48 + 17 * 1024;
+// The bytes of the longest text: 50 for its first line, and 17 for the line of each of 1,024 pairs.
+pub const TEXT_MOST: usize = 50 + 17 * 1024;
 
 // A text: the first `length` bytes.
 pub struct Printed {

@@ -112,7 +112,7 @@ fn answer_text(
     m: usize,
     flow: &[u32; 1024],
 ) -> usize
-    requires { ⌜ (n ≤ 32) × (m ≤ 32) × (textMost ≤ length (now out)) × (length (now verdict) ≤ 5) ⌝ }
+    requires { ⌜ (n ≤ 32) × (m ≤ 32) × (textMost ≤ length (now out)) × (length (now verdict) ≤ 7) ⌝ }
     ensures { λ r.
         ⌜ AppendedWithin textMost 0 (now (out .entry)) (answerText (now (verdict .entry)) units cost n m (now (flow .entry))) r
         (now (out .exit)) ⌝ }
@@ -138,6 +138,7 @@ pub fn render(placed: Placed, n: usize, m: usize, flow: &[u32; 1024], out: &mut 
 {
     match placed {
         Placed::Full(units, cost) => answer_text(out, b"FULL", units, cost, n, m, flow),
+        Placed::Covered(units, cost) => answer_text(out, b"COVERED", units, cost, n, m, flow),
         Placed::Short(units, cost) => answer_text(out, b"SHORT", units, cost, n, m, flow),
         Placed::Refused(r) => refusal(out, files::number(r) as u64),
     }

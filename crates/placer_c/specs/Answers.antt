@@ -4,7 +4,7 @@ use mathlib.Core.Bool.{cond}
 use Prim.Native.Nat.{ℕ, _+_}
 use lib.ListN.{length, getD}
 use lib.Dec.{eqb}
-use Rattle.specification.specs.Reply.{Reply, gives, refuses, Size, Verdict, full, short, Outcome}
+use Rattle.specification.specs.Reply.{Reply, gives, refuses, Size, Verdict, full, covered, short, Outcome}
 use Rattle.specification.specs.Book.{lotCosts, PairCost, costs, notEligible, outside}
 use Rattle.book.specs.Pairs.{rowStart}
 use Rattle.placer_c.specs.declared.Answer.{Answer}
@@ -37,9 +37,10 @@ costOf outside = answer 0 0 (0 ∷ 0 ∷ [])
 abbrev pub number : ℕ → Answer
 number n = answer 0 0 (n ∷ [])
 
--- Full is 1 and Short is 2
+-- Full is 1 and Short is 2; Covered, which came later (document 02, request 1), is 3
 abbrev pub verdictNumber : Verdict → ℕ
 verdictNumber full = 1
+verdictNumber covered = 3
 verdictNumber short = 2
 
 -- units and cost

@@ -83,12 +83,13 @@ pub fn checked(reply: Checked) -> Answer
     }
 }
 
-// Full or Short, units and cost.
+// The verdict's number, units and cost.
 pub fn placed(reply: Placed) -> Answer
     ensures { λ r. ⌜ r ≡ answerOf placed (statedPlaced reply) ⌝ }
 {
     match reply {
         Placed::Full(units, cost) => accepted(1, units, cost),
+        Placed::Covered(units, cost) => accepted(3, units, cost),
         Placed::Short(units, cost) => accepted(2, units, cost),
         Placed::Refused(cause) => refused(cause),
     }

@@ -1,4 +1,4 @@
--- `placer::text::render` meets its contract, at each of the three variants.
+-- `placer::text::render` meets its contract, at each of its variants.
 use mathlib.Core.Path.{ap}
 use native.Mathlib.Omega.{arith}
 use borrow.Author.Needs.{needs}
@@ -21,6 +21,13 @@ answer-text-requires-2 c κs =
     let few = start .pre .0 _ (ap statedPlaced (p .placed2 .given .1)) in
     (few .0, few .1, omega (arith, start .pre .1), omega arith)
 
+answer-text-requires-3 : tie.Need-answer-text-requires-3
+answer-text-requires-3 c κs =
+    let p = c .before .before .before in
+    let start = p .before .before .before in
+    let few = start .pre .0 _ (ap statedPlaced (p .placed3 .given .1)) in
+    (few .0, few .1, omega (arith, start .pre .1), omega arith)
+
 returns : tie.Need-returns
 returns c =
     let a = c .before .before in
@@ -35,12 +42,18 @@ returns-2 c =
 
 returns-3 : tie.Need-returns-3
 returns-3 c =
+    let a = c .before .before in
+    rw (a .before .before .before .before .placed3 .given .1)
+    (rendered _ _ _ _ (a .answer-text3 .ensures) (omega arith) (given-text _ _ _ _))
+
+returns-4 : tie.Need-returns-4
+returns-4 c =
     let r = c .before .before in
     let number = r .before in
     let p = number .before .before .before in
-    rw (p .placed3 .given .1)
+    rw (p .placed4 .given .1)
     (rendered _ _ _ _ (r .refusal .ensures) (omega arith)
-    (λ P lots calls. rw (number .number .ensures) (refused-text (p .placed3 .given .0 .0) _ P)))
+    (λ P lots calls. rw (number .number .ensures) (refused-text (p .placed4 .given .0 .0) _ P)))
 
 pub render-spec : {M : Type 1} → statement M
 render-spec =
@@ -53,6 +66,9 @@ render-spec =
     (λ c. search needs)
     answer-text-requires-2
     (λ c. search needs)
+    (λ c. search needs)
+    answer-text-requires-3
+    (λ c. search needs)
     (λ c κs. search needs)
     (λ c. search needs)
     (λ c κs. omega (arith, c .before .before .before .before .before .before .pre .1))
@@ -61,4 +77,6 @@ render-spec =
     (λ c. search needs)
     returns-2
     (λ c. search needs)
-    returns-3)
+    returns-3
+    (λ c. search needs)
+    returns-4)

@@ -14,7 +14,11 @@ returns-2 c = simp (c .accepted2 .ensures, c .before .before .reply2 .given .1)
 
 returns-3 : tie.Need-returns-3
 unfolding answerOf
-returns-3 c = simp (c .refused .ensures, c .before .before .reply3 .given .1)
+returns-3 c = simp (c .accepted3 .ensures, c .before .before .reply3 .given .1)
+
+returns-4 : tie.Need-returns-4
+unfolding answerOf
+returns-4 c = simp (c .refused .ensures, c .before .before .reply4 .given .1)
 
 pub placed-spec : {M : Type 1} → statement M
 placed-spec =
@@ -26,6 +30,9 @@ placed-spec =
     (λ c κs. search needs)
     (λ c. search needs)
     (λ c κs. search needs)
+    (λ c. search needs)
+    (λ c κs. search needs)
     returns
     returns-2
-    returns-3)
+    returns-3
+    returns-4)
