@@ -15,7 +15,7 @@ use Rattle.transport.proofs.Greedy.Optimal.{greedy-most-units}
 
 -- an allocation that meets every call has the calls' total of units
 units-of-meets-calls : {P : Problem} {a b : ℕ → ℕ} {x : ℕ → ℕ → ℕ} → MeetsCalls P a b x → units P x ≡ sum (P .calls) b
-units-of-meets-calls {P} {a} {b} {x} m = sum-swap (P .lots) (P .calls) x ∙ sum-cong (P .calls) (callSum P x) b (m .call-met)
+units-of-meets-calls {P} {a} {b} {x} m = sum-swap (P .lots) (P .calls) x ∙ sum-cong (P .calls) (callSum P x) b (m .calls-met)
 
 module _ {P : Problem} {a b : ℕ → ℕ} {S : List Pair} {s : State} (k : Kept P a b S s) where
   -- what the calls lack, in all
