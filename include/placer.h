@@ -5,13 +5,13 @@
  *
  * A lot is a source of whole units, a call wants whole units. A book says for each lot and call whether the pair is eligible and what a
  * unit costs on it. An order lists the eligible pairs; running it gives each pair in turn the smaller of what its lot has left and what
- * its call still lacks. An order that passes the check places everything whenever that is possible at all, and then at least cost,
- * whatever the amounts: so an order is agreed once and used daily.
+ * its call still lacks. An order that passes the check meets every call whenever that is possible at all, and places everything whenever
+ * that is possible, then at least cost, whatever the amounts: so an order is agreed once and used daily.
  *
  *     uint32_t flow[PLACER_FLOW_MAX];
  *     placer_reply r = placer_find_and_run(book, book_len, amounts, amounts_len, flow, PLACER_FLOW_MAX);
  *     if (r.number != PLACER_ACCEPTED) fprintf(stderr, "refused: %s\n", placer_sentence(r.number));
- *     else printf("%s: %llu units, cost %llu\n", r.verdict == PLACER_FULL ? "all met" : "short",
+ *     else printf("%s: %llu units, cost %llu\n", r.verdict == PLACER_SHORT ? "a call lacks units" : "every call is met",
  *                 (unsigned long long)r.values[0], (unsigned long long)r.values[1]);
  *
  * Files are byte strings that the caller holds: a pointer and a length. They open with a mark of three letters, version 1 in two bytes,
@@ -82,11 +82,17 @@ enum placer_number {
     PLACER_BUFFER_TOO_SHORT = 17    /* the buffer lent is too short */
 };
 
-/* The verdict of a run. Short means that a call lacks units or that a lot has units left. Least cost is promised for Full. */
-enum placer_verdict { PLACER_NO_RUN = 0, PLACER_FULL = 1, PLACER_SHORT = 2 };
+/* The verdict of a run. Least cost is promised for Full alone; whatever the verdict, no allocation places more units. */
+enum placer_verdict {
+    PLACER_NO_RUN = 0, /* the call refused, or is not a run */
+    PLACER_FULL = 1,   /* nothing is left in any lot or call; no allocation that meets everything costs less */
+    PLACER_SHORT = 2,  /* a call lacks units; no allocation meets every call */
+    PLACER_COVERED = 3 /* every call is met and some lot has units left; the cost need not be the least */
+};
 
-/* What a call answers. `number` is PLACER_ACCEPTED or a refusal's number. `verdict` is PLACER_FULL or PLACER_SHORT where a run is
- * accepted, else PLACER_NO_RUN. `values`: as each call says where it accepts, as the list above says where it refuses; the others 0. */
+/* What a call answers. `number` is PLACER_ACCEPTED or a refusal's number. `verdict` is PLACER_FULL, PLACER_COVERED or PLACER_SHORT where
+ * a run is accepted, else PLACER_NO_RUN. `values`: as each call says where it accepts, as the list of refusals says where it refuses; the
+ * others 0. */
 typedef struct {
     uint32_t number;
     uint32_t verdict;
@@ -104,7 +110,8 @@ typedef struct {
  *   flow, flow_len   written where the call accepts: the units of lot i and call j at flow[i * m + j], 0 where the pair is not eligible;
  *                    entries from n * m on are kept. flow_len counts entries; below n * m is 17.
  *   accepted         values: units, cost. Full exactly when some allocation meets every lot and call; then no other costs less.
- *                    Full or Short, no allocation places more units.
+ *                    Covered or Full exactly when some allocation meets every call, whatever the totals. Full, Covered or Short,
+ *                    no allocation places more units.
  *   refused          the book's numbers, the amounts', 17, 13 */
 placer_reply placer_find_and_run(const uint8_t *book, size_t book_len, const uint8_t *amounts, size_t amounts_len, uint32_t *flow,
                                  size_t flow_len);
@@ -120,7 +127,7 @@ placer_reply placer_find_order(const uint8_t *book, size_t book_len, uint8_t *or
 /* placer_run_order: check an order and run it.
  *   book, order, amounts   read
  *   flow, flow_len         as for placer_find_and_run
- *   accepted               values: units, cost, the sums over the flow written
+ *   accepted               as for placer_find_and_run; units and cost are the sums over the flow written
  *   refused                the book's numbers, the order's, the amounts', 17 */
 placer_reply placer_run_order(const uint8_t *book, size_t book_len, const uint8_t *order, size_t order_len, const uint8_t *amounts,
                               size_t amounts_len, uint32_t *flow, size_t flow_len);

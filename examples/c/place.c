@@ -27,6 +27,12 @@ static int refused(placer_reply reply)
     return 1;
 }
 
+static const char *word(uint32_t verdict)
+{
+    if (verdict == PLACER_FULL) return "FULL";
+    return verdict == PLACER_COVERED ? "COVERED" : "SHORT";
+}
+
 int main(void)
 {
     uint8_t order[PLACER_ORDER_MAX];
@@ -41,7 +47,7 @@ int main(void)
 
     placer_reply placed = placer_run_order(book, sizeof book, order, order_len, amounts, sizeof amounts, flow, PLACER_FLOW_MAX);
     if (refused(placed)) return 2;
-    printf("%s %" PRIu64 " %" PRIu64 "\n", placed.verdict == PLACER_FULL ? "FULL" : "SHORT", placed.values[0], placed.values[1]);
+    printf("%s %" PRIu64 " %" PRIu64 "\n", word(placed.verdict), placed.values[0], placed.values[1]);
 
     placer_reply size = placer_read_book(book, sizeof book);
     for (uint64_t lot = 0; lot < size.values[0]; lot++)
@@ -49,5 +55,5 @@ int main(void)
             uint32_t units = flow[lot * size.values[1] + call];
             if (units > 0) printf("%" PRIu64 " %" PRIu64 " %" PRIu32 "\n", lot, call, units);
         }
-    return placed.verdict == PLACER_FULL ? 0 : 1;
+    return placed.verdict == PLACER_FULL || placed.verdict == PLACER_COVERED ? 0 : 1;
 }
