@@ -39,7 +39,11 @@ fn main() -> Result<(), Refusal> {
 
     let mut flow = [0; FLOW_MAX];
     let placed = run_order(&book, &order[..length], &amounts, &mut flow)?;
-    let word = if placed.verdict == Verdict::Full { "FULL" } else { "SHORT" };
+    let word = match placed.verdict {
+        Verdict::Full => "FULL",
+        Verdict::Covered => "COVERED",
+        Verdict::Short => "SHORT",
+    };
     println!("{word} {} {}", placed.units, placed.cost);
 
     let size = read_book(&book)?;

@@ -2,7 +2,8 @@
 //!
 //! A *book* says for each lot and call whether the pair is eligible and what a unit costs on it. An *order* lists the eligible pairs;
 //! running it gives each pair in turn the smaller of what its lot has left and what its call still lacks. An order that passes the check
-//! places everything whenever that is possible at all, and then at least cost, whatever the *amounts*.
+//! meets every call whenever that is possible at all, and places everything whenever that is possible, then at least cost, whatever the
+//! *amounts*.
 //!
 //! The three files are byte slices, laid out as `include/placer.h` says. Every function takes any bytes: it accepts, or refuses by the
 //! first [`Refusal`] in the published sequence. A buffer is written only where the call accepts. Nothing is allocated or kept, nothing
@@ -59,12 +60,29 @@ pub struct Size {
     pub calls: usize,
 }
 
-/// Whether a run met everything.
+/// Whether a run met everything, or every call. Whatever the verdict, no other allocation places more units.
+///
+/// ```
+/// use placer::{find_and_run, Verdict};
+///
+/// // Two lots and two calls, the last pair not eligible, costs 0; lots of 2 and 0 units, calls for 1 and 0 (example F8).
+/// let book = b"CLB\x01\0\x02\x02\x03\0\0\0\0\0\0\0\0\0\0\0\x01\0\0\0\0\0\0\0";
+/// let amounts = b"CLA\x01\0\x02\x02\x02\0\0\0\0\0\0\0\x01\0\0\0\0\0\0\0";
+/// let placed = find_and_run(book, amounts, &mut [0; 4])?;
+/// assert_eq!((placed.verdict, placed.units, placed.cost), (Verdict::Covered, 1, 0));
+///
+/// // Lots of 0 and 1 units, calls for 0 and 1: a call lacks a unit, and a lot that is not eligible for it has one left.
+/// let amounts = b"CLA\x01\0\x02\x02\0\0\0\0\x01\0\0\0\0\0\0\0\x01\0\0\0";
+/// assert_eq!(find_and_run(book, amounts, &mut [0; 4])?.verdict, Verdict::Short);
+/// # Ok::<(), placer::Refusal>(())
+/// ```
 #[derive(Clone, Copy, Debug, PartialEq, Eq, Hash)]
 pub enum Verdict {
     /// Nothing is left in any lot or call. No other allocation that meets everything costs less.
     Full,
-    /// A call lacks units, or a lot has units left. No other allocation places more units; one that places as many may cost less.
+    /// Every call is met, and some lot has units left. Another allocation that meets every call may cost less.
+    Covered,
+    /// A call lacks units. No allocation meets every call; one that places as many units may cost less.
     Short,
 }
 
@@ -72,7 +90,7 @@ pub enum Verdict {
 #[derive(Clone, Copy, Debug, PartialEq, Eq, Hash)]
 #[must_use]
 pub struct Placed {
-    /// Whether everything was met.
+    /// Whether everything, or every call, was met.
     pub verdict: Verdict,
     /// Units placed.
     pub units: u64,
@@ -92,7 +110,11 @@ fn size(reply: Reply) -> Result<Size, Refusal> {
 }
 
 fn placed(reply: Reply) -> Result<Placed, Refusal> {
-    let verdict = if reply.verdict == 1 { Verdict::Full } else { Verdict::Short };
+    let verdict = match reply.verdict {
+        1 => Verdict::Full,
+        3 => Verdict::Covered,
+        _ => Verdict::Short, // 2 is the only number left of a run
+    };
     accepted(reply, |[units, cost]| Placed { verdict, units: units as u64, cost: cost as u64 })
 }
 
@@ -201,4 +223,17 @@ pub fn run_order(book: &[u8], order: &[u8], amounts: &[u8], flow: &mut [u32]) ->
 pub fn find_and_run(book: &[u8], amounts: &[u8], flow: &mut [u32]) -> Result<Placed, Refusal> {
     let (b, a) = (book.as_ptr(), amounts.as_ptr());
     placed(unsafe { sys::placer_find_and_run(b, book.len(), a, amounts.len(), flow.as_mut_ptr(), flow.len()) })
+}
+
+#[cfg(test)]
+mod tests {
+    use super::*;
+
+    #[test]
+    fn verdicts_by_number() {
+        let told = |verdict| placed(Reply { number: 0, verdict, values: [0; 4] }).unwrap().verdict;
+        assert_eq!([1, 2, 3].map(told), [Verdict::Full, Verdict::Short, Verdict::Covered]);
+        // a number that this crate does not know is never told as every call met
+        assert_eq!([0, 4, u32::MAX].map(told), [Verdict::Short; 3]);
+    }
 }
