@@ -4,9 +4,9 @@ import placer
 
 book = placer.book_bytes([[1, 2], [3, 5]])
 order = placer.find_order(book)  # the file to agree on and keep; good for all amounts
-for day, (lots, calls) in enumerate([([5, 4], [3, 6]), ([1, 8], [9, 0]), ([2, 2], [1, 1])]):
+for day, (lots, calls) in enumerate([([5, 4], [3, 6]), ([1, 8], [9, 0]), ([2, 2], [1, 1]), ([1, 1], [2, 2])]):
     placing = placer.run_order(book, order, placer.amounts_bytes(lots, calls))
-    print("day", day, "full" if placing.full else "short", placing.units, placing.cost)
+    print("day", day, placing.verdict.name.lower(), placing.units, placing.cost)
 
 try:  # F2: pairs sorted by cost are no good order
     placer.check_order(book, placer.order_bytes([(0, 0), (0, 1), (1, 0), (1, 1)]))

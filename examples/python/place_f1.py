@@ -7,7 +7,7 @@ order = placer.find_order(placer.book_bytes(costs))
 print("order:", *(f"{lot}{call}" for lot, call in placer.order_pairs(order)))
 
 placing = placer.place(costs, lots=[5, 4], calls=[3, 6])
-print("FULL" if placing.full else "SHORT", placing.units, placing.cost)
+print(placing.verdict.name, placing.units, placing.cost)
 for lot, row in enumerate(placing.flow):
     for call, units in enumerate(row):
         if units:

@@ -7,7 +7,7 @@ Trusted: this package, ctypes, the declaration of the C interface, the C compile
 
 Examples:
     >>> place([[1, 2], [3, 5]], [5, 4], [3, 6])
-    Placing(full=True, units=9, cost=24, flow=((0, 5), (3, 1)))
+    Placing(verdict=Verdict.FULL, units=9, cost=24, flow=((0, 5), (3, 1)))
 """
 
 from .entry_points import (
@@ -15,6 +15,7 @@ from .entry_points import (
     ORDER_MAX,
     Counts,
     Placing,
+    Verdict,
     check_order,
     find_and_run,
     find_order,
@@ -38,6 +39,7 @@ __all__ = [
     "Counts",
     "Placing",
     "Refused",
+    "Verdict",
     "amounts_bytes",
     "amounts_lists",
     "book_bytes",

@@ -16,7 +16,6 @@ from .refused import Refused
 BytesLike = Union[bytes, bytearray, memoryview, mmap.mmap, "array[int]", "ctypes.Array[Any]"]
 Writable = Union[bytearray, memoryview, mmap.mmap, "array[int]", "ctypes.Array[Any]"]
 
-FULL = 1  # the verdict of a run that leaves nothing
 _NAME = "libplacer.so"
 
 

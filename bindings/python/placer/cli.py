@@ -15,7 +15,7 @@ from .files import words
 from .lists import amounts_lists, book_costs, numbers, order_pairs
 from .tables import BadInput, Problem, contents, load, told
 
-FULL, SHORT, REFUSED = 0, 1, 2  # exit status
+DONE, SHORT, REFUSED = 0, 1, 2  # exit status
 
 _ABOUT = f"""Places bond lots to margin calls: as many units as can be placed, and at the least cost where
 everything can be met.
@@ -27,7 +27,10 @@ FILES are three CSV tables or two binary files:
   BOOK AMOUNTS       a book (.clb) and an amounts file (.cla), as `placer encode` writes them
 One of the files may be -, standard input. Lots and calls are at most 32 each.
 
-Exit status: {FULL} placed in full (other commands: done), {SHORT} placed short, {REFUSED} refused or bad input."""
+`placer place` says full if nothing is left in any lot or call, covered if every call is met and
+some lot has units left, short if a call lacks units.
+
+Exit status: {DONE} full or covered (other commands: done), {SHORT} short, {REFUSED} refused or bad input."""
 
 _PROVED = """This command is a front end and not the proved part: the library that it calls is proved, and so is
 the program `place`, which reads the files of `placer encode` and prints the same placing."""
@@ -74,8 +77,8 @@ def _place(options: argparse.Namespace) -> int:
     if options.flow:
         Path(options.flow).write_bytes(words(units for row in placing.flow for units in row))
     _write(options.output, _units(problem, placing))
-    print(f"{'full' if placing.full else 'short'}: {placing.units} units, cost {placing.cost}", file=sys.stderr)
-    return FULL if placing.full else SHORT
+    print(f"{placing.verdict.name.lower()}: {placing.units} units, cost {placing.cost}", file=sys.stderr)
+    return DONE if placing.met else SHORT
 
 
 def _encode(options: argparse.Namespace) -> int:
@@ -85,7 +88,7 @@ def _encode(options: argparse.Namespace) -> int:
         files["order.clo"] = told(options.files[0], find_order, problem.book)
     for name, data in files.items():
         (Path(options.to) / name).write_bytes(data)
-    return FULL
+    return DONE
 
 
 def _dimacs_lines(problem: Problem) -> Iterator[str]:
@@ -103,7 +106,7 @@ def _dimacs_lines(problem: Problem) -> Iterator[str]:
 
 def _dimacs(options: argparse.Namespace) -> int:
     _write(options.output, "\n".join(_dimacs_lines(load(options.files))) + "\n")
-    return FULL
+    return DONE
 
 
 def _shown_book(data: bytes) -> str:
@@ -139,7 +142,7 @@ def _show(options: argparse.Namespace) -> int:
     if shown is None and not options.book:
         raise BadInput(options.file, None, "neither a book, an order nor amounts; for a flow name its book by --book")
     sys.stdout.write(told(options.file, shown, data) if shown else _shown_flow(options.file, data, options.book))
-    return FULL
+    return DONE
 
 
 def _check(options: argparse.Namespace) -> int:
@@ -154,7 +157,7 @@ def _check(options: argparse.Namespace) -> int:
         else:
             lines.append(f"{path}: an order of {told(path, check_order, book, data)} pairs that is good for all amounts\n")
     sys.stdout.writelines(lines)
-    return FULL
+    return DONE
 
 
 def _parser() -> argparse.ArgumentParser:

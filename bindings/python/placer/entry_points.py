@@ -3,6 +3,7 @@
 from __future__ import annotations
 
 import ctypes
+import enum
 import operator
 from dataclasses import dataclass
 from typing import Any, NamedTuple, Optional, Sequence, Tuple
@@ -22,21 +23,49 @@ class Counts(NamedTuple):
     calls: int
 
 
+class Verdict(enum.Enum):
+    """What a run met, by the numbers of the C header.
+
+    Attributes:
+        FULL: nothing is left in any lot or call; the cost is the least of all allocations that meet everything.
+        SHORT: a call lacks units; no allocation meets every call.
+        COVERED: every call is met and some lot has units left; the cost need not be the least.
+    """
+
+    FULL = 1
+    SHORT = 2
+    COVERED = 3
+
+    def __repr__(self) -> str:
+        """Return the name, as `Verdict.FULL`."""
+        return f"Verdict.{self.name}"
+
+
 @dataclass(frozen=True)
 class Placing:
     """What a run placed.
 
     Attributes:
-        full: nothing is left in any lot or call; the cost is then the least of all allocations that meet everything.
+        verdict: whether everything, or every call, is met.
         units: how many units were placed; no allocation has more.
         cost: the sum of units times cost, in hundredths of a cent.
         flow: the units of each pair: `flow[lot][call]`, 0 where not eligible.
     """
 
-    full: bool
+    verdict: Verdict
     units: int
     cost: int
     flow: Tuple[Tuple[int, ...], ...]
+
+    @property
+    def full(self) -> bool:
+        """Whether nothing is left in any lot or call."""
+        return self.verdict is Verdict.FULL
+
+    @property
+    def met(self) -> bool:
+        """Whether every call is met: the verdict is FULL or COVERED."""
+        return self.verdict in (Verdict.FULL, Verdict.COVERED)
 
 
 def read_book(book: BytesLike) -> Counts:
@@ -176,7 +205,7 @@ def _placing(name: str, flow: Optional[Writable], book: BytesLike, *files: Bytes
     lots, calls = slices[0][0][5:7]
     units = memoryview(lent[0]).cast("B").cast("I")
     rows = tuple(tuple(units[lot * calls : (lot + 1) * calls]) for lot in range(lots))
-    return Placing(verdict == _library.FULL, values[0], values[1], rows)
+    return Placing(Verdict(verdict), values[0], values[1], rows)
 
 
 def run_order(book: BytesLike, order: BytesLike, amounts: BytesLike, flow: Optional[Writable] = None) -> Placing:
@@ -189,7 +218,7 @@ def run_order(book: BytesLike, order: BytesLike, amounts: BytesLike, flow: Optio
         flow: a buffer of 32-bit items to write the flow into as well, entry lot * calls + call; later ones keep their contents.
 
     Returns:
-        The placing. If it is not full its cost need not be the least.
+        The placing. If its verdict is not FULL its cost need not be the least.
 
     Raises:
         Refused: the book's refusal; the order's; the amounts'; then 17.
@@ -197,7 +226,7 @@ def run_order(book: BytesLike, order: BytesLike, amounts: BytesLike, flow: Optio
     Examples:
         >>> book = book_bytes([[1, 2], [3, 5]])
         >>> run_order(book, find_order(book), amounts_bytes([5, 4], [3, 6]))
-        Placing(full=True, units=9, cost=24, flow=((0, 5), (3, 1)))
+        Placing(verdict=Verdict.FULL, units=9, cost=24, flow=((0, 5), (3, 1)))
     """
     return _placing("run_order", flow, book, order, amounts)
 
@@ -213,7 +242,7 @@ def find_and_run(book: BytesLike, amounts: BytesLike, flow: Optional[Writable] =
 
     Examples:
         >>> find_and_run(book_bytes([[1, 2], [3, 5]]), amounts_bytes([5, 4], [3, 6]))
-        Placing(full=True, units=9, cost=24, flow=((0, 5), (3, 1)))
+        Placing(verdict=Verdict.FULL, units=9, cost=24, flow=((0, 5), (3, 1)))
     """
     return _placing("find_and_run", flow, book, amounts)
 
@@ -236,8 +265,10 @@ def place(costs: Costs, lots: Sequence[int], calls: Sequence[int]) -> Placing:
 
     Examples:
         >>> place([[1, 2], [3, 5]], [5, 4], [3, 6])
-        Placing(full=True, units=9, cost=24, flow=((0, 5), (3, 1)))
+        Placing(verdict=Verdict.FULL, units=9, cost=24, flow=((0, 5), (3, 1)))
         >>> place([[0, 0], [0, None]], [2, 0], [1, 0])
-        Placing(full=False, units=1, cost=0, flow=((1, 0), (0, 0)))
+        Placing(verdict=Verdict.COVERED, units=1, cost=0, flow=((1, 0), (0, 0)))
+        >>> place([[0, 0], [0, None]], [0, 1], [0, 1])
+        Placing(verdict=Verdict.SHORT, units=0, cost=0, flow=((0, 0), (0, 0)))
     """
     return find_and_run(book_bytes(costs), amounts_bytes(lots, calls))

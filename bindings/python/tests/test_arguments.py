@@ -102,11 +102,15 @@ class Arguments(Case):
             self.refused(4, (), placer.place, costs, [0] * len(costs), [])
 
     def test_placing(self):
-        """A placing cannot be changed, and compares by value."""
+        """A placing cannot be changed, compares by value, and says by its verdict what is met."""
         placing = placer.place(F1, [5, 4], [3, 6])
-        self.assertRaises(dataclasses.FrozenInstanceError, setattr, placing, "units", 0)
+        for name in ("units", "verdict", "full", "met"):
+            self.assertRaises(dataclasses.FrozenInstanceError, setattr, placing, name, 0)
         self.assertEqual(placing, placer.find_and_run(BOOK, AMOUNTS))
         self.assertEqual(hash(placing), hash(placer.find_and_run(BOOK, AMOUNTS)))
+        for lots, told in (([5, 4], ("FULL", True, True)), ([6, 4], ("COVERED", False, True)), ([4, 4], ("SHORT", False, False))):
+            placing = placer.place(F1, lots, [3, 6])
+            self.assertEqual((placing.verdict.name, placing.full, placing.met), told)
 
     def test_absent_library(self):
         """A library that cannot be loaded is said at the first call, not at import."""

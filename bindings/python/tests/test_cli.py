@@ -73,17 +73,28 @@ class Command(Case):
         return status, out.getvalue(), err.getvalue()
 
     def test_place(self):
-        """Full, short, by an order, to a file, from standard input and from binary files."""
+        """By an order, to a file, from standard input and from binary files."""
         placed = (ROOT / "examples" / "csv" / "placed.csv").read_text()
         full = (0, placed, "full: 9 units, cost 24\n")
         self.assertEqual(self.run_it("place", *TABLES), full)
         self.assertEqual(self.run_it("place", "-", *TABLES[1:], stdin=b"\xef\xbb\xbf" + PAIRS.replace("\n", "\r\n\r\n").encode()), full)
         self.assertEqual(self.run_it("place", *TABLES, "-o", "out.csv"), (0, "", full[2]))
         self.assertEqual(Path("out.csv").read_text(), placed)
-        self.write({"order.clo": ORDER, "book.clb": BOOK, "amounts.cla": AMOUNTS, "lots.csv": LOTS.replace(",5", ",4")})
+        self.write({"order.clo": ORDER, "book.clb": BOOK, "amounts.cla": AMOUNTS})
         out = self.run_it("place", "book.clb", "amounts.cla", "--order", "order.clo")[1]
         self.assertEqual(out, "lot,call,units\n0,1,5\n1,0,3\n1,1,1\n")
-        self.assertEqual(self.run_it("place", *TABLES)[::2], (1, "short: 8 units, cost 22\n"))
+
+    def test_verdicts(self):
+        """The word and the exit status: 0 where every call is met, 1 where one lacks units, whatever is left in the lots."""
+        for amount, status, message in [
+            ("5", 0, "full: 9 units, cost 24\n"),
+            ("6", 0, "covered: 9 units, cost 21\n"),
+            ("4", 1, "short: 8 units, cost 22\n"),
+        ]:
+            self.write({"lots.csv": LOTS.replace(",5", f",{amount}")})
+            self.assertEqual(self.run_it("place", *TABLES)[::2], (status, message))
+        self.write({"pairs.csv": "lot,call,cost\nBund 2031,Clearing A,1\n", "lots.csv": LOTS})
+        self.assertEqual(self.run_it("place", *TABLES), (1, "lot,call,units\nBund 2031,Clearing A,3\n", "short: 3 units, cost 3\n"))
 
     def test_names(self):
         """Names are free text, in order of first appearance in the amounts tables."""
@@ -166,6 +177,7 @@ class Command(Case):
         for arguments in (["--help"], ["place", "--help"], ["show", "--help"]):
             status, out, _ = self.run_it(*arguments)
             self.assertEqual((status, "not the proved part" in out), (0, True))
+        self.assertIn("Exit status: 0 full or covered (", self.run_it("--help")[1])
         self.assertEqual(self.run_it("--version"), (0, f"placer {placer.__version__}\n", ""))
         self.assertEqual(self.run_it("place", "one")[0], 2)
         environment = {**os.environ, "PYTHONPATH": str(ROOT / "bindings" / "python")}

@@ -14,11 +14,11 @@ class Header(unittest.TestCase):
     """What both sides name."""
 
     def test_numbers(self):
-        """The causes, the verdict Full, the bounds of the buffers, and the version."""
+        """The causes, the verdicts, the bounds of the buffers, and the version."""
         text = HEADER.read_text()
         numbers = {name: int(number) for name, number in re.findall(r"PLACER_(\w+) = (\d+)", text)}
-        self.assertEqual({cause.name: cause.value for cause in placer.Cause}, {name: numbers[name] for name in placer.Cause.__members__})
-        self.assertEqual(numbers["FULL"], 1)
+        named = {member.name: member.value for kind in (placer.Cause, placer.Verdict) for member in kind}
+        self.assertEqual({"ACCEPTED": 0, "NO_RUN": 0, **named}, numbers)
         bounds = dict(re.findall(r"#define PLACER_(\w+) (\d+)", text))
         self.assertEqual((placer.ORDER_MAX, placer.FLOW_MAX), (int(bounds["ORDER_MAX"]), int(bounds["FLOW_MAX"])))
         self.assertIn(f'PLACER_VERSION "{placer.__version__}"', text)

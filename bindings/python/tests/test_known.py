@@ -3,7 +3,7 @@
 import unittest
 
 import placer
-from placer import amounts_bytes, book_bytes, order_bytes
+from placer import Verdict, amounts_bytes, book_bytes, order_bytes
 from support import F1, NO_ORDER, Case
 
 F6 = [[0, 0], [0, None]]
@@ -19,10 +19,10 @@ class Known(Case):
     """Each example by its number."""
 
     def placed(self, costs, lots, calls, *expected):
-        """Check that both ways of placing give this answer: full, units, cost and, if given, the flow."""
+        """Check that both ways of placing give this answer: verdict, units, cost and, if given, the flow."""
         book, amounts = book_bytes(costs), amounts_bytes(lots, calls)
         for placing in (placer.find_and_run(book, amounts), placer.run_order(book, placer.find_order(book), amounts)):
-            self.assertEqual((placing.full, placing.units, placing.cost, placing.flow)[: len(expected)], expected)
+            self.assertEqual((placing.verdict, placing.units, placing.cost, placing.flow)[: len(expected)], expected)
 
     def order(self, costs, text):
         """Return a book and an order of it."""
@@ -31,7 +31,7 @@ class Known(Case):
     def test_f1(self):
         """The order found, and the placing by it."""
         self.assertEqual(placer.find_order(book_bytes(F1)), order_bytes(pairs("01 00 10 11")))
-        self.placed(F1, [5, 4], [3, 6], True, 9, 24, ((0, 5), (3, 1)))
+        self.placed(F1, [5, 4], [3, 6], Verdict.FULL, 9, 24, ((0, 5), (3, 1)))
 
     def test_f2_to_f6(self):
         """Orders that pass and orders that fail."""
@@ -44,8 +44,8 @@ class Known(Case):
     def test_f7_f8(self):
         """A pair that is not eligible."""
         self.assertEqual(placer.order_pairs(placer.find_order(book_bytes(F6))), pairs("01 00 10"))
-        self.placed(F6, [1, 1], [1, 1], True, 2, 0)
-        self.placed(F6, [2, 0], [1, 0], False, 1, 0)
+        self.placed(F6, [1, 1], [1, 1], Verdict.FULL, 2, 0)
+        self.placed(F6, [2, 0], [1, 0], Verdict.COVERED, 1, 0)
 
     def test_f9(self):
         """A book without an order."""
@@ -55,19 +55,27 @@ class Known(Case):
     def test_f10_f11(self):
         """No eligible pair."""
         self.assertEqual(placer.find_order(book_bytes([[None]])), order_bytes([]))
-        self.placed([[None]], [1], [1], False, 0, 0, ((0,),))
-        self.placed([[None]], [0], [0], True, 0, 0, ((0,),))
+        self.placed([[None]], [1], [1], Verdict.SHORT, 0, 0, ((0,),))
+        self.placed([[None]], [0], [0], Verdict.FULL, 0, 0, ((0,),))
 
     def test_f12_f13(self):
         """The largest cost and amount, and one more of each."""
-        self.placed([[1_000_000]], [MOST], [MOST], True, MOST, 10**15)
+        self.placed([[1_000_000]], [MOST], [MOST], Verdict.FULL, MOST, 10**15)
         self.refused(7, (0, 0), placer.place, [[1_000_001]], [MOST], [MOST])
         self.refused(16, (), placer.place, [[1_000_000]], [MOST + 1], [MOST])
 
     def test_largest(self):
         """The largest book and amounts: 32 by 32, every cost and amount at its limit."""
         most = [MOST] * 32
-        self.placed([[1_000_000] * 32] * 32, most, most, True, 32 * MOST, 32 * 10**15)
+        self.placed([[1_000_000] * 32] * 32, most, most, Verdict.FULL, 32 * MOST, 32 * 10**15)
+
+    def test_verdicts(self):
+        """A call that lacks units is Short, whatever is left in the lots; a Covered run need not be the cheapest."""
+        self.placed(F6, [1, 2], [1, 2], Verdict.SHORT, 2, 0, ((0, 1), (1, 0)))
+        self.placed(F6, [1, 3], [1, 2], Verdict.SHORT, 2, 0, ((0, 1), (1, 0)))
+        self.placed(F1, [1, 1], [2, 2], Verdict.SHORT, 2, 5, ((0, 1), (1, 0)))
+        self.placed([[None]], [1], [0], Verdict.COVERED, 0, 0)
+        self.placed([[5], [1]], [1, 1], [1], Verdict.COVERED, 1, 5, ((1,), (0,)))
 
     def test_f14(self):
         """Too many calls, and a bit outside."""

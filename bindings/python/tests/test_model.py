@@ -2,6 +2,7 @@
 
 import random
 import unittest
+from collections import Counter
 
 import model
 import placer
@@ -35,7 +36,7 @@ class Model(unittest.TestCase):
 
     def test_books(self):
         """Finder, run and check on the same books, with the finder's order and a shuffled one."""
-        found = full = 0
+        verdicts = Counter()
         for rng, costs, amounts in books(400, 1):
             book, file = book_bytes(costs), amounts_bytes(*amounts)
             order = model.find(costs)
@@ -45,9 +46,11 @@ class Model(unittest.TestCase):
             else:
                 self.assertEqual(placer.find_order(book), order_bytes(order))
                 self.assertEqual(placer.check_order(book, order_bytes(order)), len(order))
-                self.assertEqual(placing, placer.Placing(*model.greedy(costs, order, *amounts)))
+                verdict, *sums = model.greedy(costs, order, *amounts)
+                self.assertEqual(placing, placer.Placing(placer.Verdict[verdict], *sums))
                 self.assertEqual(placing, placer.run_order(book, order_bytes(order), file))
-                found, full = found + 1, full + placing.full
+                self.assertEqual(placing.met, model.can_meet_calls(costs, *amounts))
+                verdicts[placing.verdict] += 1
             pairs = order or model.pairs(costs)
             for _ in range(3):
                 if len(pairs) > 1:
@@ -57,7 +60,7 @@ class Model(unittest.TestCase):
                 self.assertEqual(self.reply(placer.check_order, book, order_bytes(pairs)), failure or len(pairs))
             self.assertEqual(placer.book_costs(book), costs)
             self.assertEqual([[placer.pair_cost(book, lot, call) for call in range(len(row))] for lot, row in enumerate(costs)], costs)
-        self.assertGreater(min(found, full), 50)
+        self.assertGreater(min(verdicts[verdict] for verdict in placer.Verdict), 50)
 
 
 if __name__ == "__main__":
