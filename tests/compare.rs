@@ -1,6 +1,7 @@
-//! Compares the C library with an independent reference, and tries demand 3 by brute force. The seed is fixed, so every run is the same.
-//! Parts run at the same time in several threads, as the library allows. The last line is `tests: N cases, D differences`; the exit
-//! status is 0 only if D is 0, each number came, and each wrong reference was noticed.
+//! Compares the C library with an independent reference, and tries demand 3 and what the verdicts promise by brute force. The seed is
+//! fixed, so every run is the same. Parts run at the same time in several threads, as the library allows. The last line is
+//! `tests: N cases, D differences`; the exit status is 0 only if D is 0, each number and each verdict came, and each wrong reference was
+//! noticed.
 mod demand3;
 mod families;
 mod files;
@@ -27,13 +28,15 @@ struct Outcome {
     cases: u64,
     differences: u64,
     numbers: [u64; 18],
+    verdicts: [u64; 4],
     seconds: f64,
 }
 
 fn outcome(wrong: Wrong, work: &Work) -> Outcome {
     let (start, mut c) = (Instant::now(), Comparison::new(wrong));
     work(&mut c);
-    Outcome { cases: c.cases, differences: c.differences, numbers: c.numbers, seconds: start.elapsed().as_secs_f64() }
+    let seconds = start.elapsed().as_secs_f64();
+    Outcome { cases: c.cases, differences: c.differences, numbers: c.numbers, verdicts: c.verdicts, seconds }
 }
 
 /// Runs all parts, two or more at a time; the outcomes in the sequence of the parts.
@@ -73,8 +76,8 @@ fn notice(c: &mut Comparison) {
     });
 }
 
-fn main() {
-    let path = std::env::args().nth(1).unwrap_or_default();
+/// The parts and their names. The printing program is the last one, where it is built.
+fn all_parts(path: &Path) -> Vec<(&str, Work<'_>)> {
     let mut parts: Vec<(&str, Work)> = vec![
         ("damaged files", Box::new(|c| sections::damage(c, &samples::stored_books()))),
         ("books up to 2 by 2", Box::new(sections::small_books)),
@@ -87,31 +90,47 @@ fn main() {
         ("families to 31 by 31", Box::new(|c| families::families(c, 2, &[14, 24, 31]))),
         ("families to 32 by 32", Box::new(|c| families::families(c, 2, &[1, 2, 17, 32]))),
         ("limits", Box::new(sections::limits)),
+        ("known runs", Box::new(sections::known)),
         ("long orders", Box::new(sections::long_orders)),
-        ("demand 3 by brute force", Box::new(demand3::demand3)),
+        ("demand 3 and verdicts by brute force", Box::new(demand3::demand3)),
     ];
-    match Path::new(&path).is_file() {
-        true => parts.push(("printing program", Box::new(|c| program::program(c, Path::new(&path))))),
+    match path.is_file() {
+        true => parts.push(("printing program", Box::new(move |c| program::program(c, path)))),
         false => println!("printing program: SKIPPED, it is not built"),
     }
-    let (names, works): (Vec<&str>, Vec<Work>) = parts.into_iter().unzip();
+    parts
+}
+
+/// Prints how often each number and each verdict came; the count of those that never did.
+fn unseen(outcomes: &[Outcome]) -> u64 {
+    let (mut numbers, mut verdicts) = ([0; 18], [0; 4]);
+    for done in outcomes {
+        numbers.iter_mut().zip(done.numbers).for_each(|(sum, times)| *sum += times);
+        verdicts.iter_mut().zip(done.verdicts).for_each(|(sum, times)| *sum += times);
+    }
+    let [_, full, short, covered] = verdicts;
+    println!("accepted {}; refused by 1 to 17: {:?}; runs full {full}, short {short}, covered {covered}", numbers[0], &numbers[1..]);
+    numbers.iter().chain(&verdicts).filter(|&&times| times == 0).count() as u64
+}
+
+fn main() {
+    let path = std::env::args().nth(1).unwrap_or_default();
+    let (names, works): (Vec<&str>, Vec<Work>) = all_parts(Path::new(&path)).into_iter().unzip();
     let outcomes = run_all(&works.into_iter().map(|work| (Wrong::Nothing, work)).collect::<Vec<_>>());
-    let (mut cases, mut differences, mut numbers) = (0, 0, [0; 18]);
+    let (mut cases, mut differences) = (0, 0);
     for (name, done) in names.iter().zip(&outcomes) {
         println!("{name}: {} cases, {} differences, {:.1} s", done.cases, done.differences, done.seconds);
         cases += done.cases;
         differences += done.differences;
-        numbers.iter_mut().zip(done.numbers).for_each(|(sum, times)| *sum += times);
     }
-    println!("accepted {}; refused by 1 to 17: {:?}", numbers[0], &numbers[1..]);
-    let unseen = numbers.iter().filter(|&&times| times == 0).count() as u64;
+    differences += unseen(&outcomes);
 
     let wrong = run_all(&WRONG.iter().map(|&wrong| (wrong, Box::new(notice) as Work)).collect::<Vec<_>>());
     let missed: Vec<&Wrong> = WRONG.iter().zip(&wrong).filter(|(_, done)| done.differences == 0).map(|(wrong, _)| wrong).collect();
     println!("wrong references: {} of {} noticed", WRONG.len() - missed.len(), WRONG.len());
     missed.iter().for_each(|wrong| println!("NOT NOTICED: {wrong:?}"));
 
-    differences += unseen + missed.len() as u64;
+    differences += missed.len() as u64;
     println!("tests: {cases} cases, {differences} differences");
     std::process::exit((differences > 0) as i32);
 }

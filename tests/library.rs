@@ -1,6 +1,7 @@
 //! The C library called as C calls it, each reply and each buffer held against the reference. Every slice handed over ends where an
 //! inaccessible page begins, and has a strip of known bytes before it.
-use crate::reference::{Refused, Run, Wrong};
+use crate::placing::Run;
+use crate::reference::{Refused, Wrong};
 use crate::sys::{
     placer_check_order, placer_find_and_run, placer_find_order, placer_lot_costs, placer_pair_cost, placer_read_amounts, placer_read_book,
     placer_run_order, Reply,
@@ -72,6 +73,8 @@ pub struct Comparison {
     pub differences: u64,
     /// How often each number was expected; 0 is an accepted input.
     pub numbers: [u64; 18],
+    /// How often each verdict was expected; 0 is no run.
+    pub verdicts: [u64; 4],
     book: Guarded,
     order: Guarded,
     amounts: Guarded,
@@ -92,7 +95,7 @@ impl Comparison {
     pub fn new(wrong: Wrong) -> Comparison {
         let room = |bytes| Guarded::new(bytes);
         let (book, order, amounts, flow) = (room(20_000), room(140_000), room(8_000), room(8_000));
-        Comparison { wrong, cases: 0, differences: 0, numbers: [0; 18], book, order, amounts, flow }
+        Comparison { wrong, cases: 0, differences: 0, numbers: [0; 18], verdicts: [0; 4], book, order, amounts, flow }
     }
 
     pub fn count(&mut self, same: bool, what: impl Fn() -> String) {
@@ -116,6 +119,7 @@ impl Comparison {
         let parts = (self.book.put(lent.book), self.order.put(lent.order), self.amounts.put(lent.amounts), self.flow.put(lent.flow));
         let got = call(parts.0, parts.1, parts.2, parts.3);
         self.numbers[expected.number as usize] += 1;
+        self.verdicts[expected.verdict as usize] += 1;
         let same = got == expected
             && self.book.holds(after.book)
             && self.order.holds(after.order)
@@ -176,7 +180,7 @@ impl Comparison {
         call: impl Fn(Part<u8>, Part<u8>, Part<u8>, Part<u32>) -> Reply,
     ) {
         let (expected, after) = match run {
-            Ok(run) => (Ok((if run.full { 1 } else { 2 }, vec![run.units, run.cost])), run.flow),
+            Ok(run) => (Ok((run.verdict as u32, vec![run.units, run.cost])), run.flow),
             Err(refused) => (Err(refused), lent.flow.to_vec()),
         };
         self.compare(name, lent, reply(expected), Lent { flow: &after, ..lent }, call);
@@ -197,7 +201,7 @@ impl Comparison {
     }
 }
 
-/// The library's own answers, for the checks that do not compare: an order's file, whether an order passes, and a run.
+/// The library's own answers, for the checks that do not compare: an order's file, whether an order passes, and the two runs.
 pub fn found(book: &[u8]) -> Option<Vec<u8>> {
     let mut order = vec![0; 2055];
     let got = unsafe { placer_find_order(book.as_ptr(), book.len(), order.as_mut_ptr(), order.len()) };
@@ -213,4 +217,9 @@ pub fn run(book: &[u8], order: &[u8], amounts: &[u8]) -> Reply {
     let mut flow = [0; 1024];
     let (b, o, a) = (book.as_ptr(), order.as_ptr(), amounts.as_ptr());
     unsafe { placer_run_order(b, book.len(), o, order.len(), a, amounts.len(), flow.as_mut_ptr(), flow.len()) }
+}
+
+pub fn find_and_run(book: &[u8], amounts: &[u8]) -> Reply {
+    let mut flow = [0; 1024];
+    unsafe { placer_find_and_run(book.as_ptr(), book.len(), amounts.as_ptr(), amounts.len(), flow.as_mut_ptr(), flow.len()) }
 }

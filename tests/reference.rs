@@ -1,5 +1,5 @@
-//! Document 01 a second time, plainly: each sentence in the obvious way, however slow. Written from the document and the paper alone.
-//! Each `Wrong` is a deliberate error that the comparison has to notice.
+//! Document 01, as the requests amend it, a second time and plainly: each sentence in the obvious way, however slow. Written from the
+//! documents and the paper alone. Each `Wrong` is a deliberate error that the comparison has to notice.
 
 macro_rules! wrong {
     ($($name:ident)*) => {
@@ -20,6 +20,10 @@ wrong! {
     HighestPairFirst
     CheapestPairFirst
     FullWhenCallsMet
+    CoveredWhenNothingIsLeft
+    CoveredWhenACallLacks
+    CoveredByTotals
+    ShortWhenLotsAreLeft
     CostOfEachPairOnce
     IneligibleEntriesKept
     NoOrderBeforeShortBuffer
@@ -54,14 +58,6 @@ pub struct Book {
     pub calls: usize,
     pub costs: Vec<Vec<Option<u64>>>,
     pub words: Vec<usize>,
-}
-
-/// What a run comes to.
-pub struct Run {
-    pub full: bool,
-    pub units: u64,
-    pub cost: u64,
-    pub flow: Vec<u32>,
 }
 
 pub fn refuse<T>(number: u32, values: &[usize]) -> Result<T, Refused> {

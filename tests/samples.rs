@@ -1,5 +1,6 @@
 //! Books, orders and amounts to try, from a fixed seed.
 use crate::files::book_file;
+use crate::placing::Verdict;
 use crate::reference::Pair;
 
 pub type Costs = Vec<Vec<Option<u64>>>;
@@ -189,18 +190,69 @@ fn damaged_twice(file: &[u8]) -> impl Iterator<Item = Vec<u8>> + '_ {
     })
 }
 
+/// A book by rows of costs, -1 where a pair is not eligible.
+fn rows(rows: &[&[i64]]) -> Costs {
+    rows.iter().map(|row| row.iter().map(|&cost| u64::try_from(cost).ok()).collect()).collect()
+}
+
 /// Books for the damage: small ones, one with every bit of a word, and one with gaps.
 pub fn stored_books() -> Vec<Vec<u8>> {
-    let some = |rows: &[&[i64]]| book_file(&rows.iter().map(|row| row.iter().map(|&c| u64::try_from(c).ok()).collect()).collect::<Costs>());
     vec![
-        some(&[&[1, 2], &[3, 5]]),
-        some(&[&[1, 2], &[3, 4]]),
-        some(&[&[0, 0], &[0, -1]]),
-        some(&[&[-1, 0, 0], &[0, -1, 0], &[0, 0, -1]]),
-        some(&[&[-1]]),
-        some(&[&[1_000_000]]),
-        some(&[&[3, -1, 7, 256], &[-1, -1, -1, -1], &[-1, 9, -1, 65_536]]),
+        book_file(&rows(&[&[1, 2], &[3, 5]])),
+        book_file(&rows(&[&[1, 2], &[3, 4]])),
+        book_file(&rows(&[&[0, 0], &[0, -1]])),
+        book_file(&rows(&[&[-1, 0, 0], &[0, -1, 0], &[0, 0, -1]])),
+        book_file(&rows(&[&[-1]])),
+        book_file(&rows(&[&[1_000_000]])),
+        book_file(&rows(&[&[3, -1, 7, 256], &[-1, -1, -1, -1], &[-1, 9, -1, 65_536]])),
         book_file(&vec![(0..32).map(Some).collect(); 1]),
         book_file(&vec![vec![Some(5)]; 32]),
     ]
+}
+
+/// A book, amounts, and what finding and running comes to: verdict, units, cost.
+pub type Known = (Costs, Vec<u64>, (Verdict, u64, u64));
+
+/// F1, F7, F8, F10, F11 and F12 of document 01. Then: a call lacks and a lot has units left at once, with equal totals and with each the
+/// larger; neither, and only the one or the other; costs above the least, which is promised for Full alone; 2 to the 32 units in all left,
+/// and lacking.
+pub fn known_runs() -> Vec<Known> {
+    let (cross, corner, billion) = (rows(&[&[0, -1], &[-1, 0]]), rows(&[&[0, 0], &[0, -1]]), 1_000_000_000);
+    let many = [billion, billion, billion, billion, 294_967_296];
+    vec![
+        (rows(&[&[1, 2], &[3, 5]]), vec![5, 4, 3, 6], (Verdict::Full, 9, 24)),
+        (corner.clone(), vec![1, 1, 1, 1], (Verdict::Full, 2, 0)),
+        (corner, vec![2, 0, 1, 0], (Verdict::Covered, 1, 0)),
+        (rows(&[&[-1]]), vec![1, 1], (Verdict::Short, 0, 0)),
+        (rows(&[&[-1]]), vec![0, 0], (Verdict::Full, 0, 0)),
+        (rows(&[&[1_000_000]]), vec![billion, billion], (Verdict::Full, billion, 1_000_000 * billion)),
+        (cross.clone(), vec![2, 0, 1, 1], (Verdict::Short, 1, 0)),
+        (cross.clone(), vec![5, 0, 1, 1], (Verdict::Short, 1, 0)),
+        (cross.clone(), vec![2, 0, 1, 3], (Verdict::Short, 1, 0)),
+        (cross.clone(), vec![0, 0, 0, 0], (Verdict::Full, 0, 0)),
+        (cross.clone(), vec![0, 1, 0, 0], (Verdict::Covered, 0, 0)),
+        (cross, vec![0, 0, 0, 1], (Verdict::Short, 0, 0)),
+        (rows(&[&[-1]]), vec![1, 0], (Verdict::Covered, 0, 0)),
+        (rows(&[&[7]]), vec![billion, billion - 1], (Verdict::Covered, billion - 1, 7 * (billion - 1))),
+        (rows(&[&[7]]), vec![billion - 1, billion], (Verdict::Short, billion - 1, 7 * (billion - 1))),
+        (rows(&[&[5], &[1]]), vec![1, 1, 1], (Verdict::Covered, 1, 5)),
+        (rows(&[&[5, 1]]), vec![1, 1, 1], (Verdict::Short, 1, 5)),
+        (vec![vec![Some(0)]; 5], [&many[..], &[0]].concat(), (Verdict::Covered, 0, 0)),
+        (vec![vec![Some(0); 5]], [&[0][..], &many].concat(), (Verdict::Short, 0, 0)),
+    ]
+}
+
+/// One unit at each lot and call in turn, and no other: a lot has it left, or a call lacks it. Lot k is eligible for call k alone.
+pub fn one_unit() -> Vec<Known> {
+    let mut runs = Vec::new();
+    for (lots, calls) in [(2, 3), (1, 32), (32, 1), (32, 32)] {
+        let costs: Costs = (0..lots).map(|i| (0..calls).map(|j| (i == j).then_some(1)).collect()).collect();
+        for at in 0..lots + calls {
+            let mut amounts = vec![0; lots + calls];
+            amounts[at] = 1;
+            let verdict = if at < lots { Verdict::Covered } else { Verdict::Short };
+            runs.push((costs.clone(), amounts, (verdict, 0, 0)));
+        }
+    }
+    runs
 }

@@ -1,8 +1,9 @@
 //! What is tried, in sections. Each calls the library by a `Comparison`.
 use crate::files::{amounts_file, book_file, order_file};
-use crate::library::Comparison;
+use crate::library::{find_and_run, run, Comparison};
 use crate::reference::{Pair, Wrong};
-use crate::samples::{all, all_books, amounts, costs, damaged, pairs, permutations, Costs, Kind, Random, KINDS};
+use crate::samples::{all, all_books, amounts, costs, damaged, known_runs, one_unit, pairs, permutations, Costs, Kind, Random, KINDS};
+use crate::sys::Reply;
 
 const FAR: [usize; 6] = [32, 255, 256, 1 << 32, (1 << 32) + 1, usize::MAX];
 
@@ -199,6 +200,19 @@ pub fn limits(c: &mut Comparison) {
     for more in [1, 2, 1000, 4300] {
         c.read_book(&[&book[..], &vec![0; more]].concat());
         c.read_amounts(&book, &[&amounts[..], &vec![0; more]].concat());
+    }
+}
+
+/// Runs whose replies are known: the reference and the library are held to them.
+pub fn known(c: &mut Comparison) {
+    for (costs, amounts, (verdict, units, cost)) in known_runs().into_iter().chain(one_unit()) {
+        let (lots, calls, book) = (costs.len(), costs[0].len(), book_file(&costs));
+        let (order, amounts) = (order_file(&some_order(&costs)), amounts_file(lots, calls, &amounts));
+        c.find_and_run(&book, &amounts, &vec![9; lots * calls + 1]);
+        c.run_order(&book, &order, &amounts, &vec![9; lots * calls + 1]);
+        let reply = Reply { number: 0, verdict: verdict as u32, values: [units, cost, 0, 0] };
+        let got = [find_and_run(&book, &amounts), run(&book, &order, &amounts)];
+        c.count(got == [reply; 2], || format!("{costs:?} with {amounts:?}: {got:?}, known {reply:?}"));
     }
 }
 
