@@ -1,4 +1,4 @@
-/* placer.h: place bond lots on margin calls, at least cost, by an order of the eligible pairs.
+/* placer.h: place bond lots on margin calls by an order of the eligible pairs, at the least cost where everything can be met.
  *
  * This header is the manual of the C library (libplacer.a, libplacer.so; x86-64 Linux only; C99 or C++11). All that a caller has to know
  * stands here; docs/FORMATS.md of the sources has the files byte by byte.

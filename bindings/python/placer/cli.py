@@ -3,11 +3,13 @@
 from __future__ import annotations
 
 import argparse
+import contextlib
 import csv
 import io
+import os
 import sys
 from pathlib import Path
-from typing import Iterator, List, Optional, Sequence
+from typing import Iterator, List, Optional, Sequence, TextIO
 
 from . import __version__
 from .entry_points import Placing, check_order, find_and_run, find_order, read_amounts, read_book, run_order
@@ -16,6 +18,11 @@ from .lists import amounts_lists, book_costs, numbers, order_pairs
 from .tables import BadInput, Problem, contents, load, told
 
 DONE, SHORT, REFUSED = 0, 1, 2  # exit status
+
+_STATUS = f"""`placer place` says full if nothing is left in any lot or call, covered if every call is met and
+some lot has units left, short if a call lacks units.
+
+Exit status: {DONE} full or covered (other commands: done), {SHORT} short, {REFUSED} refused or bad input."""
 
 _ABOUT = f"""Places bond lots to margin calls: as many units as can be placed, and at the least cost where
 everything can be met.
@@ -27,10 +34,7 @@ FILES are three CSV tables or two binary files:
   BOOK AMOUNTS       a book (.clb) and an amounts file (.cla), as `placer encode` writes them
 One of the files may be -, standard input. Lots and calls are at most 32 each.
 
-`placer place` says full if nothing is left in any lot or call, covered if every call is met and
-some lot has units left, short if a call lacks units.
-
-Exit status: {DONE} full or covered (other commands: done), {SHORT} short, {REFUSED} refused or bad input."""
+{_STATUS}"""
 
 _PROVED = """This command is a front end and not the proved part: the library that it calls is proved, and so is
 the program `place`, which reads the files of `placer encode` and prints the same placing."""
@@ -49,9 +53,35 @@ def _matrix(cells: Sequence[Sequence[Optional[int]]]) -> str:
     return _text([head, *([lot, *("-" if cell is None else cell for cell in row)] for lot, row in enumerate(cells))])
 
 
+def _send(stream: TextIO, text: str) -> None:
+    """Write and flush. What cannot be written is dropped, so that leaving the program does not fail by it again."""
+    try:
+        stream.write(text)
+        stream.flush()
+    except OSError:
+        os.dup2(os.open(os.devnull, os.O_WRONLY), stream.fileno())
+        raise
+
+
+def _out(text: str) -> None:
+    """Write to standard output, as UTF-8 in any locale."""
+    if sys.stdout is None:
+        raise BadInput("standard output", None, "is closed")
+    if isinstance(sys.stdout, io.TextIOWrapper):
+        sys.stdout.reconfigure(encoding="utf-8")
+    _send(sys.stdout, text)
+
+
+def _say(line: str) -> None:
+    """Write a line to standard error, if that can be written: the exit status says the same."""
+    if sys.stderr is not None:
+        with contextlib.suppress(OSError):
+            _send(sys.stderr, line + "\n")
+
+
 def _write(path: str, text: str) -> None:
     if path == "-":
-        sys.stdout.write(text)
+        _out(text)
     else:
         Path(path).write_bytes(text.encode())
 
@@ -77,7 +107,7 @@ def _place(options: argparse.Namespace) -> int:
     if options.flow:
         Path(options.flow).write_bytes(words(units for row in placing.flow for units in row))
     _write(options.output, _units(problem, placing))
-    print(f"{placing.verdict.name.lower()}: {placing.units} units, cost {placing.cost}", file=sys.stderr)
+    _say(f"{placing.verdict.name.lower()}: {placing.units} units, cost {placing.cost}")
     return DONE if placing.met else SHORT
 
 
@@ -141,7 +171,7 @@ def _show(options: argparse.Namespace) -> int:
     shown = {b"CLB": _shown_book, b"CLO": _shown_order, b"CLA": _shown_amounts}.get(data[:3])
     if shown is None and not options.book:
         raise BadInput(options.file, None, "neither a book, an order nor amounts; for a flow name its book by --book")
-    sys.stdout.write(told(options.file, shown, data) if shown else _shown_flow(options.file, data, options.book))
+    _out(told(options.file, shown, data) if shown else _shown_flow(options.file, data, options.book))
     return DONE
 
 
@@ -156,7 +186,7 @@ def _check(options: argparse.Namespace) -> int:
             lines.append(f"{path}: amounts of this book\n")
         else:
             lines.append(f"{path}: an order of {told(path, check_order, book, data)} pairs that is good for all amounts\n")
-    sys.stdout.writelines(lines)
+    _out("".join(lines))
     return DONE
 
 
@@ -167,7 +197,7 @@ def _parser() -> argparse.ArgumentParser:
     commands = parser.add_subparsers(dest="command", required=True, metavar="COMMAND")
 
     def command(name: str, run: object, text: str) -> argparse.ArgumentParser:
-        added = commands.add_parser(name, help=text, description=text, epilog=_PROVED, formatter_class=layout)
+        added = commands.add_parser(name, help=text, description=text, epilog=f"{_STATUS}\n\n{_PROVED}", formatter_class=layout)
         added.set_defaults(run=run)
         return added
 
@@ -199,6 +229,6 @@ def main(arguments: Optional[List[str]] = None) -> int:
         parser.error("FILES are three tables (PAIRS LOTS CALLS) or two files (BOOK AMOUNTS)")
     try:
         return int(options.run(options))
-    except (BadInput, ImportError, OSError) as error:
-        print(f"placer: {error}", file=sys.stderr)
+    except Exception as error:  # of whatever kind: status 1 is for a call that lacks units
+        _say(f"placer: {error}")
         return REFUSED

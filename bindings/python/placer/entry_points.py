@@ -23,7 +23,7 @@ class Counts(NamedTuple):
     calls: int
 
 
-class Verdict(enum.Enum):
+class Verdict(enum.IntEnum):
     """What a run met, by the numbers of the C header.
 
     Attributes:
@@ -36,9 +36,11 @@ class Verdict(enum.Enum):
     SHORT = 2
     COVERED = 3
 
-    def __repr__(self) -> str:
+    def __str__(self) -> str:
         """Return the name, as `Verdict.FULL`."""
         return f"Verdict.{self.name}"
+
+    __repr__ = __str__
 
 
 @dataclass(frozen=True)

@@ -48,8 +48,8 @@ def told(path: str, call: Callable[..., Any], *arguments: Any) -> Any:
 def contents(path: str) -> bytes:
     """Return the bytes of a file, or of standard input for "-", which is closed by it."""
     if path == "-":
-        if sys.stdin.closed:
-            raise BadInput(path, None, "can be read once only")
+        if sys.stdin is None or sys.stdin.closed:
+            raise BadInput(path, None, "is closed, or was read before: it can be read once only")
         with sys.stdin as stream:
             return stream.buffer.read()
     try:

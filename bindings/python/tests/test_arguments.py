@@ -111,6 +111,7 @@ class Arguments(Case):
         for lots, told in (([5, 4], ("FULL", True, True)), ([6, 4], ("COVERED", False, True)), ([4, 4], ("SHORT", False, False))):
             placing = placer.place(F1, lots, [3, 6])
             self.assertEqual((placing.verdict.name, placing.full, placing.met), told)
+            self.assertEqual((repr(placing.verdict), f"{placing.verdict}"), (f"Verdict.{told[0]}",) * 2)
 
     def test_absent_library(self):
         """A library that cannot be loaded is said at the first call, not at import."""

@@ -96,6 +96,15 @@ class Command(Case):
         self.write({"pairs.csv": "lot,call,cost\nBund 2031,Clearing A,1\n", "lots.csv": LOTS})
         self.assertEqual(self.run_it("place", *TABLES), (1, "lot,call,units\nBund 2031,Clearing A,3\n", "short: 3 units, cost 3\n"))
 
+    def test_status_stands(self):
+        """Messages that cannot be written change no status, a failure is never told as short, and the tables are UTF-8 in any locale."""
+        self.write({"lots.csv": LOTS.replace(",5", ",6").replace("Bund", "Bünd"), "pairs.csv": PAIRS.replace("Bund", "Bünd")})
+        here = {**os.environ, "PYTHONPATH": str(ROOT / "bindings" / "python"), "PYTHONIOENCODING": "ascii", "PYTHONUNBUFFERED": ""}
+        for where, status in [("", 0), ("2>/dev/full", 0), ("2>&-", 0), (">/dev/full", 2), (">&-", 2), (">/dev/full 2>&-", 2)]:
+            ran = subprocess.run(f"{sys.executable} -m placer place {' '.join(TABLES)} {where}", shell=True, env=here, capture_output=True)
+            self.assertEqual(ran.returncode, status, (where, ran))
+            self.assertEqual("Bünd".encode() in ran.stdout, status == 0)
+
     def test_names(self):
         """Names are free text, in order of first appearance in the amounts tables."""
         self.write({"pairs.csv": 'lot,call,cost\n"a, ""b""",é,7\n', "lots.csv": 'lot,amount\nz,0\n"a, ""b""",2\n'})
@@ -124,9 +133,9 @@ class Command(Case):
             ("amounts.cla: refused 15:", ["check", "none.clb", "amounts.cla"]),
             ("pairs.csv: neither a book", ["show", "pairs.csv"]),
             ("pairs.csv: a flow of this book has 16 bytes", ["show", "pairs.csv", "--book", "book.clb"]),
-            ("standard input: can be read once", ["place", "-", "-", "-"]),
-            ("standard input: can be read once", ["place", "--order", "-", "-", "amounts.cla"]),
-            ("standard input: can be read once", ["check", "-", "-"]),
+            ("standard input: is closed, or was read before", ["place", "-", "-", "-"]),
+            ("standard input: is closed, or was read before", ["place", "--order", "-", "-", "amounts.cla"]),
+            ("standard input: is closed, or was read before", ["check", "-", "-"]),
         ]:
             status, out, message = self.run_it(*arguments, stdin=LOTS.encode() if arguments.count("-") == 3 else BOOK)
             self.assertEqual((status, out), (2, ""))

@@ -1,4 +1,4 @@
-//! Place bond lots on margin calls, at least cost, by an order of the eligible pairs.
+//! Place bond lots on margin calls by an order of the eligible pairs, at the least cost where everything can be met.
 //!
 //! A *book* says for each lot and call whether the pair is eligible and what a unit costs on it. An *order* lists the eligible pairs;
 //! running it gives each pair in turn the smaller of what its lot has left and what its call still lacks. An order that passes the check

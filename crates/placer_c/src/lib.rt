@@ -13,7 +13,7 @@ ghost use Rattle.specification.specs.Run.{runOrder, runFlow};
 ghost use Rattle.specification.specs.Find.{findOrder, findBuffer, findAndRun, findAndRunFlow};
 ghost use Rattle.placer_c.specs.Answers.{answerOf, counts, costOf, number, placed, stretchOf};
 
-// A reply: 0 or the refusal's number; 1 for Full, 2 for Short, else 0; and up to four values, the others 0.
+// A reply: 0 or the refusal's number; 1 for Full, 2 for Short, 3 for Covered, else 0; and up to four values, the others 0.
 #[repr(C)]
 pub struct Answer {
     pub number: u32,
