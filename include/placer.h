@@ -5,8 +5,9 @@
  *
  * A lot is a source of whole units, a call wants whole units. A book says for each lot and call whether the pair is eligible and what a
  * unit costs on it. An order lists the eligible pairs; running it gives each pair in turn the smaller of what its lot has left and what
- * its call still lacks. An order that passes the check meets every call whenever that is possible at all, and places everything whenever
- * that is possible, then at least cost, whatever the amounts: so an order is agreed once and used daily.
+ * its call still lacks. By an order that passes the check a run meets every call whenever some allocation does; where some allocation
+ * meets everything, so does the run, and none that does costs less. Both hold whatever the amounts: so an order is agreed once and used
+ * daily.
  *
  *     uint32_t flow[PLACER_FLOW_MAX];
  *     placer_reply r = placer_find_and_run(book, book_len, amounts, amounts_len, flow, PLACER_FLOW_MAX);

@@ -1,9 +1,9 @@
 //! Place bond lots on margin calls by an order of the eligible pairs, at the least cost where everything can be met.
 //!
 //! A *book* says for each lot and call whether the pair is eligible and what a unit costs on it. An *order* lists the eligible pairs;
-//! running it gives each pair in turn the smaller of what its lot has left and what its call still lacks. An order that passes the check
-//! meets every call whenever that is possible at all, and places everything whenever that is possible, then at least cost, whatever the
-//! *amounts*.
+//! running it gives each pair in turn the smaller of what its lot has left and what its call still lacks. By an order that passes the check
+//! a run meets every call whenever some allocation does; where some allocation meets everything, so does the run, and none that does costs
+//! less. Both hold whatever the *amounts*.
 //!
 //! The three files are byte slices, laid out as `include/placer.h` says. Every function takes any bytes: it accepts, or refuses by the
 //! first [`Refusal`] in the published sequence. A buffer is written only where the call accepts. Nothing is allocated or kept, nothing

@@ -77,5 +77,5 @@ pub const LONE_AMOUNTS: [u8; 19] = *b"CLA\x01\0\x02\x01\x01\0\0\0\x01\0\0\0\x01\
 pub const STRANDED_AMOUNTS: [u8; 23] =
     *b"CLA\x01\0\x02\x02\x01\0\0\0\x02\0\0\0\x01\0\0\0\x02\0\0\0";
 
-// lots 2 0, calls 0 0
-pub const IDLE_AMOUNTS: [u8; 23] = *b"CLA\x01\0\x02\x02\x02\0\0\0\0\0\0\0\0\0\0\0\0\0\0\0";
+// lots 0 2, calls 0 0
+pub const IDLE_AMOUNTS: [u8; 23] = *b"CLA\x01\0\x02\x02\0\0\0\0\x02\0\0\0\0\0\0\0\0\0\0\0";

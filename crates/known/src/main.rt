@@ -116,7 +116,7 @@ fn orders_refused() {
     );
 }
 
-// A flow needs an entry for each lot with each call, eligible or not. A lot with no eligible pair is left over, which leaves every call met.
+// A flow needs an entry for each lot with each call, eligible or not. A lot with no eligible pair is left over, and every call is met: Covered.
 fn few_pairs() {
     let mut flow = [7u32; 3];
     let answer = placer::find_and_run(&given::F6_BOOK, &given::F7_AMOUNTS, &mut flow);

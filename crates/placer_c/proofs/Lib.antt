@@ -1,2 +1,3 @@
--- What is proved of the stretch of a lot's costs, apart from its code.
+-- What is proved of the answers for C, apart from the code.
 pub mod Stretches  -- where the costs of a lot stand in its book
+pub mod Examples  -- each verdict, by an example

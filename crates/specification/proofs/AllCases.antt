@@ -119,8 +119,8 @@ pub record OtherCases : Type 0 where
   pub no-order : findAndRun bookDiagonal (amounts 3 3 (0 ∷ 0 ∷ 0 ∷ 0 ∷ 0 ∷ 0 ∷ [])) (replicate 9 7) ≡ refuses 13 []
   -- entry i times m plus j, where n and m differ
   pub one-by-two : findAndRunFlow (book 1 2 (3 ∷ 0 ∷ 0 ∷ [])) (amounts 1 2 (5 ∷ 2 ∷ 3 ∷ [])) (9 ∷ 9 ∷ 9 ∷ []) ≡ 2 ∷ 3 ∷ 9 ∷ []
-  -- Covered where no call asks for any of the stock; Short where a call lacks a unit though a lot has one left
-  pub nothing-asked : findAndRun bookGap (amounts 2 2 (2 ∷ 0 ∷ 0 ∷ 0 ∷ [])) (replicate 4 7)
+  -- Covered where no call asks for the stock, that of the last lot; Short where a call lacks a unit though a lot has one left
+  pub nothing-asked : findAndRun bookGap (amounts 2 2 (0 ∷ 2 ∷ 0 ∷ 0 ∷ [])) (replicate 4 7)
       ≡ gives (record { verdict = covered; units = 0; cost = 0 })
   pub lacks-and-left : findAndRun bookGap (amounts 2 2 (1 ∷ 2 ∷ 1 ∷ 2 ∷ [])) (replicate 4 7)
       ≡ gives (record { verdict = short; units = 2; cost = 0 })

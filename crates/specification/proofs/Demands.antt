@@ -173,5 +173,7 @@ demand3 = record {
   by-returned = λ book buffer n e. (written book buffer n e .its-length, by-passing book _ (returned-passes book buffer n e));
   by-passing = λ book order n e. by-passing book order (check-passes-only book order n e);
   good-passes = good-passes;
+  run = λ book order amounts flow o e.
+      by-passing book order (said-of-given (run-says book order amounts flow) o e .passing) .best amounts flow o e;
   find-and-run = find-and-run-best;
 }

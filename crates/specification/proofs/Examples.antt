@@ -1,11 +1,12 @@
--- The demands' hypotheses are met, by F1's book and amounts and by F9's book: the demands speak of something.
+-- The demands' hypotheses are met, by the books and amounts of F1, F8, F9 and F10: the demands speak of something.
 use mathlib.Core.Path.{_≡_, refl, sym, _∙_}
+use mathlib.Core.Logic.{inr, ⊎-elim}
 use mathlib.Core.List.{List, [], _∷_}
 use Prim.Native.Nat.{ℕ, _≤_}
 use native.Mathlib.Omega.{arith}
 use lib.Count.{ones, onesIn}
 use lib.ListN.{length, replicate}
-use Rattle.transport.specs.Problem.{sum, Meets}
+use Rattle.transport.specs.Problem.{sum, Meets, MeetsCalls}
 use Rattle.transport.specs.Greedy.{Pair}
 use Rattle.transport.specs.Finder.{every}
 use Rattle.specification.specs.Reply.{gives, full, Outcome}
@@ -16,8 +17,9 @@ use Rattle.specification.specs.OrderFile.{orderPairs}
 use Rattle.specification.specs.Run.{runOrder}
 use Rattle.specification.specs.Find.{orderLength, findOrder}
 use Rattle.specification.specs.Demands.{Readable, Passing, GoodOrder, returned}
-use Rattle.specification.specs.Examples.{book1235, amounts5436, bookDiagonal, known-examples}
+use Rattle.specification.specs.Examples.{amounts, book1235, amounts5436, bookGap, bookEmpty, bookDiagonal, known-examples}
 use Rattle.specification.proofs.Replies.{not-both}
+use Rattle.specification.proofs.Verdicts.{short-not-full, short-not-covered}
 use Rattle.specification.proofs.Demands.{demand2, demand3}
 
 -- the buffers of the examples
@@ -34,6 +36,13 @@ order = returned book1235 orderBuffer
 abbrev outcome : Outcome
 outcome = record { verdict = full; units = 9; cost = 24 }
 
+-- the amounts of F8 and of F10
+abbrev amounts8 : List ℕ
+amounts8 = amounts 2 2 (2 ∷ 0 ∷ 1 ∷ 0 ∷ [])
+
+abbrev amounts10 : List ℕ
+amounts10 = amounts 1 1 (1 ∷ 1 ∷ [])
+
 -- what demands 2 and 3 assume, each met
 pub record NotVacuous : Type 0 where
   -- a readable book, a buffer long enough, and an order returned
@@ -47,6 +56,9 @@ pub record NotVacuous : Type 0 where
   pub amounts-read : readAmounts book1235 amounts5436 ≡ gives (record { lots = 2; calls = 2 })
   pub run-accepted : runOrder book1235 order amounts5436 flowBuffer ≡ gives outcome
   pub some-meets : (x : ℕ → ℕ → ℕ) × Meets (problemOf book1235) (lotAmount amounts5436) (callAmount book1235 amounts5436) x
+  -- an allocation that meets every call, where a run is Covered (F8), and none, where it is Short (F10)
+  pub some-meets-calls : (x : ℕ → ℕ → ℕ) × MeetsCalls (problemOf bookGap) (lotAmount amounts8) (callAmount bookGap amounts8) x
+  pub none-meets-calls : (x : ℕ → ℕ → ℕ) → MeetsCalls (problemOf bookEmpty) (lotAmount amounts10) (callAmount bookEmpty amounts10) x → ⊥
   -- a readable book with no good order
   pub none-good : Readable bookDiagonal × ((S : List Pair) → GoodOrder bookDiagonal S → ⊥)
 
@@ -89,6 +101,10 @@ not-vacuous =
       amounts-read = reads-amounts;
       run-accepted = runs-1235;
       some-meets = by .best amounts5436 flowBuffer outcome runs-1235 .verdicts .full-iff .0 refl;
+      some-meets-calls = demand3 .find-and-run bookGap amounts8 _ _ (known-examples .f8 .0) .verdicts .met-iff .0 (inr refl);
+      none-meets-calls = λ x m.
+          let best = demand3 .find-and-run bookEmpty amounts10 _ _ (known-examples .f10-placed .0) in
+          ⊎-elim short-not-full short-not-covered (best .verdicts .met-iff .1 (x, m));
       none-good = (
         (_, reads-diagonal),
         λ S good. not-both (demand3 .finds bookDiagonal (replicate 19 7) (_, reads-diagonal) long S good) (known-examples .f9),

@@ -6,6 +6,7 @@ use mathlib.Core.Path.{_≡_, refl, _∙_, ap}
 use mathlib.Core.Logic.{_⊎_, inl, inr, Iff·trans, Iff·symm}
 use mathlib.Core.List.{List, []}
 use Prim.Native.Nat.{ℕ, _*_, _≤_, _<_}
+use native.Mathlib.Omega.{arith}
 use lib.Dec.{ltb→lt, nltb→le}
 use lib.ListN.{length}
 use Rattle.transport.specs.Problem.{Problem}
@@ -13,7 +14,7 @@ use Rattle.transport.specs.Greedy.{State}
 use Rattle.transport.proofs.Orders.Lists.{lists-of-order}
 use Rattle.transport.proofs.Greedy.Given.{greedy-allocation}
 use Rattle.transport.proofs.Greedy.Optimal.{greedy-most-units, greedy-least-cost, good-of-monge}
-use Rattle.transport.proofs.Theorems.{greedy-meets-iff-spent, greedy-spends-iff}
+use Rattle.transport.proofs.Theorems.{greedy-leaves, greedy-lacks, greedy-meets-iff-spent, greedy-spends-iff}
 use Rattle.transport.proofs.Theorems.Covered.{greedy-meets-calls-iff, greedy-covers-iff}
 use Rattle.specification.specs.declared.Refusal.the-variants as refusal
 use Rattle.specification.specs.Reply.{gives, refuses, Size, Outcome}
@@ -38,7 +39,7 @@ use Rattle.specification.proofs.Books.{BookRead}
 use Rattle.specification.proofs.AmountsFiles.{AmountsRead, AmountsOrBookRefused, amounts-say}
 use Rattle.specification.proofs.Lines.{amounts-in-table}
 use Rattle.specification.proofs.Checks.{CheckRefused, check-says, check-in-table, check-passes}
-use Rattle.specification.proofs.Verdicts.{full-iff-spent, met-iff-none-lacks}
+use Rattle.specification.proofs.Verdicts.{full-iff-spent, covered-iff, short-iff, met-iff-none-lacks}
 use Rattle.specification.proofs.Flows.{length-flowOf, flow-at, flow-kept, units-over-flow, cost-over-flow}
 
 pub data RunRefused (book order amounts flow : List ℕ) : ℕ → List ℕ → Type 0 where
@@ -103,7 +104,17 @@ module _ (book order amounts flow : List ℕ) where
           units-of-flow = ap (λ r. r .units) outcome-is ∙ units-over-flow P _ flow;
           cost-of-flow = ap (λ r. r .cost) outcome-is ∙ cost-over-flow P _ flow;
           full-told = rw outcome-is (Iff·trans (full-iff-spent P by) (Iff·symm (greedy-meets-iff-spent each-once a b)));
-          met-told = rw outcome-is (Iff·trans (met-iff-none-lacks P by) (Iff·symm (greedy-meets-calls-iff each-once a b)));
+          covered-told = rw outcome-is (
+            λ e.
+                let (none, (i, h, some)) = covered-iff P by .0 e in
+                (greedy-meets-calls-iff each-once a b .1 none, (i, h, omega (arith, greedy-leaves each-once a b i h))),
+            λ (met, (i, h, below)).
+                covered-iff P by .1 (greedy-meets-calls-iff each-once a b .0 met, (i, h, omega (arith, greedy-leaves each-once a b i h))),
+          );
+          short-told = rw outcome-is (
+            λ e. let (j, h, some) = short-iff P by .0 e in (j, h, omega (arith, greedy-lacks each-once a b j h)),
+            λ (j, h, below). short-iff P by .1 (j, h, omega (arith, greedy-lacks each-once a b j h)),
+          );
         })
 
 -- every order that passes is good, gives most units, and its runs are refused for the amounts or the buffer alone

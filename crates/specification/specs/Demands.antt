@@ -1,16 +1,17 @@
--- The three demands, as types over what the entry points reply and leave in their buffers. Above each part stands the sentence it is.
+-- The three demands, with what the change requests add to them, as types over what the entry points reply and leave in their buffers. Above
+-- each part stands the sentence it is.
 use mathlib.Core.Path.{_≡_}
 use mathlib.Core.Logic.{_⊎_, _↔_}
 use mathlib.Core.List.{List, [], _∷_}
 use Prim.Native.Nat.{ℕ, _+_, _*_, _%_, _^_, _≤_, _<_}
 use lib.ListN.{length, getD, take}
 use lib.Count.{ones}
-use Rattle.transport.specs.Problem.{Problem, Eligible, sum, units, totalCost, Allocation, Meets, MeetsCalls, Within}
+use Rattle.transport.specs.Problem.{Problem, Eligible, sum, lotSum, callSum, units, totalCost, Allocation, Meets, MeetsCalls, Within}
 use Rattle.transport.specs.Greedy.{Pair, greedy}
 use Rattle.transport.specs.Order.{OrderOf, Monge, Good}
 use Rattle.transport.specs.Finder.{size}
 use Rattle.specification.specs.declared.Refusal.{Refusal}
-use Rattle.specification.specs.Reply.{Reply, gives, refuses, stated, Size, Outcome, full, covered}
+use Rattle.specification.specs.Reply.{Reply, gives, refuses, stated, Size, Outcome, full, covered, short}
 use Rattle.specification.specs.Bytes.{u32At, orderMark, readOpening}
 use Rattle.specification.specs.Book.{costLimit, largestBook, rowWord, readBook, rowAt, problemOf, lotCosts, costs, notEligible, outside, pairCost}
 use Rattle.specification.specs.Amounts.{amountLimit, readAmounts, lotAmount, callAmount}
@@ -107,10 +108,12 @@ pub record Ran (P : Problem) (a b : ℕ → ℕ) (x : ℕ → ℕ → ℕ) (befo
   -- and "the sums over the flow written"
   pub units-of-flow : o .units ≡ flowUnits P after
   pub cost-of-flow : o .cost ≡ flowCost P after
-  -- Full: "nothing is left in any lot or call" (document 01)
+  -- "Full .. if nothing is left in any lot or call" (document 01)
   pub full-told : (o .verdict ≡ full) ↔ Meets P a b x
-  -- Covered or Full: "every call is met"; else "a call still lacks units" (document 02, request 1)
-  pub met-told : ((o .verdict ≡ full) ⊎ (o .verdict ≡ covered)) ↔ MeetsCalls P a b x
+  -- "Covered .. when every call is met and some lot has units left" (document 02, request 1)
+  pub covered-told : (o .verdict ≡ covered) ↔ (MeetsCalls P a b x × ((i : ℕ) × (i < P .lots) × (lotSum P x i < a i)))
+  -- "Short when a call still lacks units" (request 1)
+  pub short-told : (o .verdict ≡ short) ↔ ((j : ℕ) × (j < P .calls) × (callSum P x j < b j))
 
 -- "the order file that the finder wrote, which ends at the length it replied" (document 01, Words)
 abbrev pub returned : List ℕ → List ℕ → List ℕ
@@ -145,7 +148,7 @@ pub record Demand2 : Type 0 where
   pub passes : (book order : List ℕ) → Passing book order → checkOrder book order ≡ gives (orderCount order)
   -- and only when
   pub only-these : (book order : List ℕ) (n : ℕ) → checkOrder book order ≡ gives n → Passing book order
-  -- "a run's flow, units and cost are those of their GREEDY"
+  -- "a run's flow, units and cost are those of their GREEDY", and its verdict says what they leave
   pub runs : (book order amounts flow : List ℕ) (o : Outcome) → runOrder book order amounts flow ≡ gives o
       → Ran (problemOf book) (lotAmount amounts) (callAmount book amounts) (greedyOn book (orderPairs order) amounts .given)
       flow (runFlow book order amounts flow) o
@@ -220,5 +223,7 @@ pub record Demand3 : Type 0 where
   -- which are the files of the good orders: one that holds a good order passes
   pub good-passes : (book order : List ℕ) → Readable book → OrderShaped order → GoodOrder book (orderPairs order)
       → checkOrder book order ≡ gives (orderCount order)
+  -- so it holds of every run "that isn't refused" (request 1)
+  pub run : (book order amounts flow : List ℕ) (o : Outcome) → runOrder book order amounts flow ≡ gives o → Best book amounts o
   -- and of finding and running in one call
   pub find-and-run : (book amounts flow : List ℕ) (o : Outcome) → findAndRun book amounts flow ≡ gives o → Best book amounts o

@@ -52,7 +52,7 @@ abbrev pub bookDiagonal : List ℕ
 bookDiagonal = book 3 3 (6 ∷ 0 ∷ 0 ∷ 5 ∷ 0 ∷ 0 ∷ 3 ∷ 0 ∷ 0 ∷ [])
 
 -- of F10 and F11: 1 by 1, not eligible
-abbrev bookEmpty : List ℕ
+abbrev pub bookEmpty : List ℕ
 bookEmpty = book 1 1 (0 ∷ [])
 
 -- the file that is found, in a buffer that is one byte longer than it must be
