@@ -22,7 +22,7 @@ DONE, SHORT, REFUSED = 0, 1, 2  # exit status
 _STATUS = f"""`placer place` says full if nothing is left in any lot or call, covered if every call is met and
 some lot has units left, short if a call lacks units.
 
-Exit status: {DONE} full or covered (other commands: done), {SHORT} short, {REFUSED} refused or bad input."""
+Exit status: {DONE} full or covered (other commands: done), {SHORT} short, {REFUSED} refused, bad input or a failure."""
 
 _ABOUT = f"""Places bond lots to margin calls: as many units as can be placed, and at the least cost where
 everything can be met.
