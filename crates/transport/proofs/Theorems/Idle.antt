@@ -1,0 +1,57 @@
+-- (l) The run with an idle call (document 02, request 2): which stock stays idle.
+use mathlib.Core.Path.{_≡_}
+use mathlib.Core.Logic.{_↔_}
+use mathlib.Core.List.{List}
+use Prim.Native.Nat.{ℕ, _+_, _≤_, _<_}
+use Rattle.transport.specs.Problem.{Problem, lotSum, callSum, totalCost, Allocation, Meets, MeetsCalls}
+use Rattle.transport.specs.Greedy.{Pair, greedy}
+use Rattle.transport.specs.Order.{OrderOf, Monge}
+use Rattle.transport.specs.Idle.{withIdle, idleAmounts, withoutIdle, greedyIdle}
+use Rattle.transport.proofs.Greedy.Given.{Spent, NoneLacks, kept-allocation, kept-meets, kept-meets-calls}
+use Rattle.transport.proofs.Greedy.Calls.{meets-calls-of-meets, totals-of-meets, kept-spends}
+use Rattle.transport.proofs.Greedy.Idle.{withLeft, add-idle, drop-idle, idle-kept, idle-least}
+
+module _ (P : Problem) (a b : ℕ → ℕ) where
+  -- (l) An allocation that meets every call meets everything in the enlarged problem, with what each lot has left in the idle call, at the
+  -- same cost; and one that meets everything there meets every call without the idle call, at the same cost. Greedy/Idle
+  pub with-idle-meets : (x : ℕ → ℕ → ℕ) → MeetsCalls P a b x
+      → Meets (withIdle P) a (idleAmounts P a b) (withLeft P a x) × (totalCost (withIdle P) (withLeft P a x) ≡ totalCost P x)
+  with-idle-meets x = add-idle P a b
+
+  pub without-idle-meets : (z : ℕ → ℕ → ℕ) → Meets (withIdle P) a (idleAmounts P a b) z
+      → MeetsCalls P a b (withoutIdle P z) × (totalCost P (withoutIdle P z) ≡ totalCost (withIdle P) z)
+  without-idle-meets z = drop-idle P a b
+
+module _ (P : Problem) {S : List Pair} (order : OrderOf (withIdle P) S) (a b : ℕ → ℕ) where
+  -- (l) What the run with an idle call returns is an allocation. What a lot has left, with its units in the idle call, and what a call
+  -- lacks, is its amount less the units it was given. Greedy/Idle
+  pub idle-is-allocation : Allocation P a b (greedyIdle P S a b .given)
+  idle-is-allocation = kept-allocation (idle-kept P order a b)
+
+  pub idle-leaves : (i : ℕ) → i < P .lots → greedyIdle P S a b .left i + lotSum P (greedyIdle P S a b .given) i ≡ a i
+  idle-leaves = idle-kept P order a b .lot-kept
+
+  pub idle-lacks : (j : ℕ) → j < P .calls → greedyIdle P S a b .lacks j + callSum P (greedyIdle P S a b .given) j ≡ b j
+  idle-lacks = idle-kept P order a b .call-kept
+
+  module _ (monge : Monge (withIdle P) S) where
+    -- (l) By a Monge sequence of the enlarged problem it meets every call whenever some allocation does, and none that does costs less,
+    -- whatever the totals; GREEDY then leaves nothing in the enlarged problem. Greedy/Idle
+    pub idle-cheapest : (x : ℕ → ℕ → ℕ) → MeetsCalls P a b x
+        → Spent (withIdle P) (greedy S a (idleAmounts P a b))
+        × MeetsCalls P a b (greedyIdle P S a b .given)
+        × (totalCost P (greedyIdle P S a b .given) ≤ totalCost P x)
+    idle-cheapest x m = idle-least P order a b monge m
+
+    -- (l) So no call lacks anything exactly when some allocation meets every call, and nothing is left exactly when one meets everything.
+    pub idle-covers-iff : NoneLacks P (greedyIdle P S a b) ↔ ((x : ℕ → ℕ → ℕ) × MeetsCalls P a b x)
+    idle-covers-iff =
+        let (lacks, met) = kept-meets-calls (idle-kept P order a b) in
+        (λ h. (greedyIdle P S a b .given, met h), λ (x, m). lacks (idle-cheapest x m .1))
+
+    pub idle-spends-iff : Spent P (greedyIdle P S a b) ↔ ((x : ℕ → ℕ → ℕ) × Meets P a b x)
+    idle-spends-iff =
+        let kept = idle-kept P order a b in (
+          λ spent. (greedyIdle P S a b .given, kept-meets kept .1 spent),
+          λ (x, m). kept-spends kept (totals-of-meets m) (idle-covers-iff .1 (x, meets-calls-of-meets m)),
+        )
