@@ -18,6 +18,7 @@ use Rattle.specification.specs.Check.{checkPairs, checkQuadruple, inTurn
 use Rattle.specification.specs.Amounts.{readAmountsOf, readAmounts}
 use Rattle.specification.specs.Run.{tabulate, flowOf, runOrder, runFlow}
 use Rattle.specification.specs.Find.{foundOrder, findOrder, findBuffer, foundToRun, findAndRun, findAndRunFlow}
+use Rattle.specification.specs.Idle.{foundToRunIdle, findAndRunIdle, findAndRunIdleFlow}
 use Rattle.specification.specs.Text.{digits, line, pairLines, textOf, printed}
 use Rattle.specification.specs.Examples.{words, book, amounts, book1235, amounts5436, bookGap, bookDiagonal}
 
@@ -195,4 +196,75 @@ other-cases =
       printed-covered = refl;
       printed-in-two-columns = refl;
       printed-largest = refl;
+    }
+
+-- Request 2. Rows - 1 / 0 0 / 1 - (- not eligible): the book has an order, and the enlarged book has none
+abbrev bookCorners : List ℕ
+bookCorners = book 3 2 (2 ∷ 1 ∷ 3 ∷ 0 ∷ 0 ∷ 1 ∷ 1 ∷ [])
+
+-- 2 by 2, costs 3 5 / 1 2; lots 3 4, calls 3 2: two units stay idle, and lot 0 is the dear one
+abbrev bookSpare : List ℕ
+bookSpare = book 2 2 (3 ∷ 3 ∷ 5 ∷ 3 ∷ 1 ∷ 2 ∷ [])
+
+abbrev amountsSpare : List ℕ
+amountsSpare = amounts 2 2 (3 ∷ 4 ∷ 3 ∷ 2 ∷ [])
+
+-- one lot with no eligible call, of this many
+abbrev bookBare : ℕ → List ℕ
+bookBare m = book 1 m (0 ∷ [])
+
+-- five lots of the highest amount, and a call that wants nothing
+abbrev bookFive : List ℕ
+bookFive = book 5 1 (0 ∷ 0 ∷ 0 ∷ 0 ∷ 0 ∷ [])
+
+abbrev amountsFive : List ℕ
+amountsFive = amounts 5 1 [] ++ (highestAmount ++ (highestAmount ++ (highestAmount ++ (highestAmount ++ (highestAmount ++ replicate 4 0)))))
+
+pub record IdleCases : Type 0 where
+  pub spare : findAndRunIdle bookSpare amountsSpare (replicate 5 8) ≡ gives (record { verdict = covered; units = 5; cost = 9 })
+  pub spare-flow : findAndRunIdleFlow bookSpare amountsSpare (replicate 5 8) ≡ 1 ∷ 0 ∷ 2 ∷ 2 ∷ 8 ∷ []
+  -- without it lot 1 stays idle
+  pub spare-plain : findAndRun bookSpare amountsSpare (replicate 5 8) ≡ gives (record { verdict = covered; units = 5; cost = 13 })
+  -- equal totals: Full; nothing to place: Full
+  pub equal : findAndRunIdle book1235 amounts5436 (replicate 4 8) ≡ gives (record { verdict = full; units = 9; cost = 24 })
+  pub nothing : findAndRunIdle bookSpare (amounts 2 2 (replicate 4 0)) (replicate 4 8) ≡ gives (record { verdict = full; units = 0; cost = 0 })
+  -- a lot with no eligible call is eligible for the idle one: all of it stays idle, or a call still lacks units
+  pub bare : findAndRunIdle (bookBare 1) (amounts 1 1 (5 ∷ 0 ∷ [])) (8 ∷ []) ≡ gives (record { verdict = covered; units = 0; cost = 0 })
+  pub bare-short : findAndRunIdle (bookBare 1) (amounts 1 1 (5 ∷ 5 ∷ [])) (8 ∷ []) ≡ gives (record { verdict = short; units = 0; cost = 0 })
+  -- 5,000,000,000 units stay idle
+  pub above-32-bits : findAndRunIdle bookFive amountsFive (replicate 5 8) ≡ gives (record { verdict = covered; units = 0; cost = 0 })
+  -- with 31 calls the idle one is the last that fits, and with 32 there is none
+  pub thirty-one : findAndRunIdle (bookBare 31) (amounts 1 31 (1 ∷ replicate 31 0)) (replicate 31 8)
+      ≡ gives (record { verdict = covered; units = 0; cost = 0 })
+  pub no-idle-call : findAndRunIdle (bookBare 32) (amounts 1 32 (1 ∷ 1 ∷ replicate 31 0)) [] ≡ refuses 19 []
+  -- 13 is about the enlarged book, and comes last; 17 by the book's own m before it; 19 before 17, 18 before 19, the amounts before 18
+  pub found-plainly : findOrder bookCorners (replicate 15 7) ≡ gives 15
+  pub no-order : findAndRunIdle bookCorners (amounts 3 2 (replicate 5 0)) (replicate 6 8) ≡ refuses 13 []
+  pub short-before-13 : findAndRunIdle bookCorners (amounts 3 2 (replicate 5 0)) (replicate 5 8) ≡ refuses 17 []
+  pub calls-exceed-lots : findAndRunIdle (bookBare 32) (amounts 1 32 (0 ∷ 1 ∷ replicate 31 0)) [] ≡ refuses 18 []
+  pub amounts-before-18 : findAndRunIdle (single highestCost) (amounts 1 1 (0 ∷ []) ++ highAmount) [] ≡ refuses 16 []
+  pub kept : findAndRunIdleFlow (bookBare 32) (amounts 1 32 (0 ∷ 1 ∷ replicate 31 0)) (8 ∷ []) ≡ 8 ∷ []
+
+pub idle-cases : IdleCases
+unfolding u16At u32At readOpening readCosts readRow readRows readBook rowAt problemOf readAmountsOf readAmounts
+idle-cases =
+    unfold tabulate flowOf sum giveAll every first takeFrom ones onesIn foundOrder findOrder foundToRun findAndRun in
+    unfold foundToRunIdle findAndRunIdle findAndRunIdleFlow in
+    record {
+      spare = refl;
+      spare-flow = refl;
+      spare-plain = refl;
+      equal = refl;
+      nothing = refl;
+      bare = refl;
+      bare-short = refl;
+      above-32-bits = refl;
+      thirty-one = refl;
+      no-idle-call = refl;
+      found-plainly = refl;
+      no-order = refl;
+      short-before-13 = refl;
+      calls-exceed-lots = refl;
+      amounts-before-18 = refl;
+      kept = refl;
     }

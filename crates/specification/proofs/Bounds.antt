@@ -8,22 +8,28 @@ use native.Mathlib.Nat.{mul-le-mul-left, mul-le-mul}
 use native.Mathlib.Omega.{arith}
 use lib.ListN.{replicate, length-replicate}
 use Rattle.transport.specs.Problem.{Problem, Eligible, sum, lotSum, units, totalCost, Allocation, Within}
+use Rattle.transport.specs.Greedy.{State}
+use Rattle.transport.specs.Idle.{idleAmount}
 use Rattle.transport.proofs.Laws.Sums.{sum-mono, sum-cong, sum-le, sum-scale}
 use Rattle.transport.proofs.Laws.Sets.{eligible?}
 use Rattle.transport.proofs.Orders.Lists.{lists-of-order}
 use Rattle.transport.proofs.Greedy.Given.{greedy-allocation}
+use Rattle.transport.proofs.Finder.Find.{find-is-order}
+use Rattle.transport.proofs.Theorems.Idle.{idle-is-allocation}
 use Rattle.specification.specs.Reply.{gives, refuses, Size, Outcome}
 use Rattle.specification.specs.Book.{costLimit, problemOf}
-use Rattle.specification.specs.Amounts.{amountLimit, lotAmount, callAmount}
-use Rattle.specification.specs.OrderFile.{orderFile}
-use Rattle.specification.specs.Run.{runOrder}
+use Rattle.specification.specs.Amounts.{amountLimit, lotAmount, callAmount, readAmounts}
+use Rattle.specification.specs.OrderFile.{orderPairs, orderFile}
+use Rattle.specification.specs.Run.{greedyOn, outcome, runOrder}
 use Rattle.specification.specs.Find.{findAndRun}
+use Rattle.specification.specs.Idle.{enlarged, greedyIdleOn, findAndRunIdle}
 use Rattle.specification.proofs.Replies.{said-of-given, said-of-refused}
 use Rattle.specification.proofs.Books.{BookRead, problem-within, cost-within}
-use Rattle.specification.proofs.AmountsFiles.{amounts-read, amounts-within}
+use Rattle.specification.proofs.AmountsFiles.{AmountsRead, amounts-read, amounts-within}
 use Rattle.specification.proofs.Lines.{amounts-in-table}
 use Rattle.specification.proofs.Runs.{run-says}
 use Rattle.specification.proofs.FindRuns.{FindRunRefused, of-amounts, flow-too-short, find-and-run-says, find-and-run-is-run}
+use Rattle.specification.proofs.IdleRuns.{idle-says}
 
 module _ (P : Problem) (lots : P .lots ≤ 32) (costs : (i j : ℕ) → Eligible P i j → P .cost i j ≤ costLimit)
     (a b : ℕ → ℕ) (within : Within amountLimit P a b) (x : ℕ → ℕ → ℕ) (allocation : Allocation P a b x) where
@@ -54,22 +60,47 @@ module _ (P : Problem) (lots : P .lots ≤ 32) (costs : (i j : ℕ) → Eligible
 abbrev Small : Outcome → Type 0
 Small o = (o .units ≤ 32 * amountLimit) × (o .cost ≤ 32 * amountLimit * costLimit)
 
+-- of an allocation of amounts that are read
+allocation-within : (book amounts : List ℕ) (n : Size) → BookRead book n → AmountsRead n amounts
+    → (s : State) → Allocation (problemOf book) (lotAmount amounts) (callAmount book amounts) (s .given)
+    → Small (outcome (problemOf book) s)
+allocation-within book amounts n read amounts-are s allocation =
+    let P : Problem = problemOf book in
+    let within = amounts-within read amounts-are in (
+      units-within P (problem-within read .1) (cost-within read) (lotAmount amounts) (callAmount book amounts) within _ allocation,
+      total-cost-within P (problem-within read .1) (cost-within read) (lotAmount amounts) (callAmount book amounts) within _ allocation,
+    )
+
 pub run-within : (book order amounts flow : List ℕ) (o : Outcome) → runOrder book order amounts flow ≡ gives o → Small o
 run-within book order amounts flow o e =
     let gave = said-of-given (run-says book order amounts flow) o e in
     let (n, read, amounts-are) = gave .read in
-    let P : Problem = problemOf book in
     let allocation = greedy-allocation (lists-of-order (gave .passing .each-once)) (lotAmount amounts) (callAmount book amounts) in
-    let within = amounts-within read amounts-are in
-    rw (gave .outcome-is) (
-      units-within P (problem-within read .1) (cost-within read) (lotAmount amounts) (callAmount book amounts) within _ allocation,
-      total-cost-within P (problem-within read .1) (cost-within read) (lotAmount amounts) (callAmount book amounts) within _ allocation,
-    )
+    rw (gave .outcome-is) (allocation-within book amounts n read amounts-are (greedyOn book (orderPairs order) amounts) allocation)
 
 pub find-and-run-within : (book amounts flow : List ℕ) (o : Outcome) → findAndRun book amounts flow ≡ gives o → Small o
 find-and-run-within book amounts flow o e =
     let (S, found, _, _) = said-of-given (find-and-run-says book amounts flow) o e in
     run-within book (orderFile S) amounts flow o (sym (find-and-run-is-run book amounts flow S found .0) ∙ e)
+
+-- and with an idle call, whose own amount has the same limit as the units
+pub idle-within : (book amounts flow : List ℕ) (o : Outcome) → findAndRunIdle book amounts flow ≡ gives o → Small o
+idle-within book amounts flow o e =
+    let (S, gave, _, is) = said-of-given (idle-says book amounts flow) o e in
+    let (read, amounts-are) = amounts-read book amounts _ (gave .allowed .reads) in
+    let order = find-is-order (enlarged book) S (gave .found) in
+    let allocation = idle-is-allocation (problemOf book) order (lotAmount amounts) (callAmount book amounts) in
+    rw is (allocation-within book amounts _ read amounts-are (greedyIdleOn book S amounts) allocation)
+
+pub idle-amount-within : (book amounts : List ℕ) (n : Size) → readAmounts book amounts ≡ gives n
+    → idleAmount (problemOf book) (lotAmount amounts) (callAmount book amounts) ≤ 32 * amountLimit
+idle-amount-within book amounts n reads =
+    let (read, amounts-are) = amounts-read book amounts n reads in
+    omega (
+      arith,
+      problem-within read,
+      sum-le (problemOf book .lots) amountLimit (lotAmount amounts) (amounts-within read amounts-are .lots-within),
+    )
 
 -- 1,024 flow entries are enough for every book: the printing program never meets 17
 cells-within : {book : List ℕ} {n : Size} → BookRead book n → problemOf book .lots * problemOf book .calls ≤ 1024

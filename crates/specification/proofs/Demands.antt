@@ -3,7 +3,7 @@
 use mathlib.Core.Path.{_≡_, refl, sym, _∙_, ap}
 use mathlib.Core.Logic.{_⊎_, inl, inr}
 use mathlib.Core.List.{List, []}
-use mathlib.Core.Option.{some, none}
+use mathlib.Core.Option.{none}
 use Prim.Native.Nat.{ℕ, _≤_}
 use native.Mathlib.Omega.{arith}
 use lib.Dec.{ltb, ltb→lt, lit≤}
@@ -13,15 +13,15 @@ use Rattle.transport.specs.Greedy.{Pair}
 use Rattle.transport.specs.Finder.{find, size}
 use Rattle.transport.proofs.Laws.Tests.{T-false}
 use Rattle.transport.proofs.Orders.Length.{order-length}
-use Rattle.transport.proofs.Greedy.Optimal.{good-of-monge}
 use Rattle.transport.proofs.Greedy.Converse.{monge-of-good}
-use Rattle.transport.proofs.Finder.Find.{find-is-order, find-is-monge, find-none}
+use Rattle.transport.proofs.Finder.Find.{find-is-order}
 use Rattle.specification.specs.Reply.{Reply, gives, refuses, Outcome}
 use Rattle.specification.specs.Book.{problemOf, lotCosts}
 use Rattle.specification.specs.OrderFile.{orderCount, orderPairs, orderFile}
 use Rattle.specification.specs.Check.{checkOrder}
 use Rattle.specification.specs.Run.{runFlow}
 use Rattle.specification.specs.Find.{orderLength, foundOrder, findOrder, findBuffer, foundToRun, findAndRun, findAndRunFlow}
+use Rattle.specification.specs.Idle.{foundToRunIdle, findAndRunIdle, findAndRunIdleFlow}
 use Rattle.specification.specs.Text.{textOf, printed}
 use Rattle.specification.specs.Demands.{InTable, Answered, Printable, Demand1, Readable, OrderShaped, Passing, returned, Demand2}
 use Rattle.specification.specs.Demands.{GoodOrder, Best, Demand3}
@@ -49,12 +49,15 @@ use Rattle.specification.proofs.Finds.{
   of-book,
   buffer-too-short,
   no-order,
+  found-is-good,
+  none-is-good,
   find-says,
   found-passes,
   written,
   find-in-table,
 }
 use Rattle.specification.proofs.FindRuns.{find-run-in-table, find-and-run-says, find-and-run-is-run, find-and-run-refused-13}
+use Rattle.specification.proofs.IdleRuns.{idle-in-table, idle-says}
 
 -- Demand 1. A reply is answered if its refusals have numbers of the table, and leave the buffer as it was.
 answered : {A : Type 0} {G : A → Type 0} {Q : ℕ → List ℕ → Type 0} {r : Reply A} (before after : List ℕ) → Says G Q r
@@ -71,7 +74,7 @@ printable (giving {a} g) numbers P flow = inl (a, flow, refl)
 printable (refusing {k} {vs} q) numbers P flow = let (r, number, _) = numbers k vs q in inr (r, rw number refl)
 
 pub demand1 : Demand1
-unfolding lotCosts runFlow findOrder findBuffer findAndRun findAndRunFlow printed
+unfolding lotCosts runFlow findOrder findBuffer findAndRun findAndRunFlow findAndRunIdle findAndRunIdleFlow printed
 demand1 = record {
   book = λ book. answered [] [] (book-says book) (λ k vs q. book-in-table q .0) (λ k vs e. refl);
   amounts = λ book amounts. answered [] [] (amounts-say book amounts) (λ k vs q. amounts-in-table q .0) (λ k vs e. refl);
@@ -81,6 +84,8 @@ demand1 = record {
       (λ k vs e. rw (refused-before (foundOrder book buffer) _ k vs e) refl);
   find-and-run = λ book amounts flow. answered flow _ (find-and-run-says book amounts flow) (λ k vs. find-run-in-table)
       (λ k vs e. rw (refused-before (foundToRun book amounts flow) _ k vs e) refl);
+  find-and-run-idle = λ book amounts flow. answered flow _ (idle-says book amounts flow) (λ k vs. idle-in-table)
+      (λ k vs e. rw (refused-before (foundToRunIdle book amounts flow) _ k vs e) refl);
   pair-cost = λ book lot call. answered [] [] (pair-cost-says book lot call) (λ k vs q. book-in-table q .0) (λ k vs e. refl);
   prints = λ bookFile amountsFile. printable (find-and-run-says _ _ _) (λ k vs. find-run-in-table) _ _;
   costs-of-refused = λ book lot k vs e. rw e refl;
@@ -131,25 +136,19 @@ module _ (book buffer : List ℕ) (readable : Readable book) (long : orderLength
   found-or-13 : (findOrder book buffer ≡ gives (orderLength book)) ⊎ (findOrder book buffer ≡ refuses 13 [])
   found-or-13 = by-reply (find-says book buffer) (λ n gave e. inl (e ∙ ap gives (gave .0))) (λ k vs q e. inr (e ∙ only-13 q .0))
 
-  found-if-good : (S : List Pair) → GoodOrder book S → findOrder book buffer ≡ gives (orderLength book)
-  found-if-good S (order, good) =
-      let monge = monge-of-good _ (problemOf book) S order good (lit≤ tt) in
-      let some-order : (find (problemOf book) ≡ none → ⊥) = λ e. find-none (problemOf book) e S order monge in
-      let (n, gave, e) = gives-if-never-refused (find-says book buffer) (λ k vs q. some-order (only-13 q .1)) in
+  found-if-good : (S : List Pair) → GoodOrder (problemOf book) S → findOrder book buffer ≡ gives (orderLength book)
+  found-if-good S good =
+      let (n, gave, e) = gives-if-never-refused (find-says book buffer) (λ k vs q. none-is-good (problemOf book) (only-13 q .1) S good) in
       e ∙ ap gives (gave .0)
 
-  refused-if-none-good : ((S : List Pair) → GoodOrder book S → ⊥) → findOrder book buffer ≡ refuses 13 []
+  refused-if-none-good : ((S : List Pair) → GoodOrder (problemOf book) S → ⊥) → findOrder book buffer ≡ refuses 13 []
   refused-if-none-good never =
-      let (k, vs, q, e) = refused-if-never-given (find-says book buffer) (λ n (_, S, gave, _). never S (found-is-good S (gave .found))) in
+      let (k, vs, q, e) = refused-if-never-given (find-says book buffer)
+      (λ n (_, S, gave, _). never S (found-is-good (problemOf book) S (gave .found))) in
       e ∙ only-13 q .0
-    where
-      found-is-good : (S : List Pair) → find (problemOf book) ≡ some S → GoodOrder book S
-      found-is-good S found =
-          let order = find-is-order (problemOf book) S found in
-          (order, good-of-monge order (find-is-monge (problemOf book) S found) _)
 
 -- a file that holds a good order passes
-good-passes : (book order : List ℕ) → Readable book → OrderShaped order → GoodOrder book (orderPairs order)
+good-passes : (book order : List ℕ) → Readable book → OrderShaped order → GoodOrder (problemOf book) (orderPairs order)
     → checkOrder book order ≡ gives (orderCount order)
 good-passes book order readable shaped (each-once, good) = check-passes book order (record {
   readable = readable;

@@ -50,7 +50,7 @@ pub record NotVacuous : Type 0 where
   pub long-enough : orderLength book1235 ≤ length orderBuffer
   pub found : findOrder book1235 orderBuffer ≡ gives (orderLength book1235)
   -- a good order and a passing one
-  pub some-good : (S : List Pair) × GoodOrder book1235 S
+  pub some-good : (S : List Pair) × GoodOrder (problemOf book1235) S
   pub some-passing : (S : List ℕ) × Passing book1235 S
   -- amounts that are read, a run that is accepted, and an allocation that meets everything
   pub amounts-read : readAmounts book1235 amounts5436 ≡ gives (record { lots = 2; calls = 2 })
@@ -60,7 +60,7 @@ pub record NotVacuous : Type 0 where
   pub some-meets-calls : (x : ℕ → ℕ → ℕ) × MeetsCalls (problemOf bookGap) (lotAmount amounts8) (callAmount bookGap amounts8) x
   pub none-meets-calls : (x : ℕ → ℕ → ℕ) → MeetsCalls (problemOf bookEmpty) (lotAmount amounts10) (callAmount bookEmpty amounts10) x → ⊥
   -- a readable book with no good order
-  pub none-good : Readable bookDiagonal × ((S : List Pair) → GoodOrder bookDiagonal S → ⊥)
+  pub none-good : Readable bookDiagonal × ((S : List Pair) → GoodOrder (problemOf bookDiagonal) S → ⊥)
 
 length-1235 : orderLength book1235 ≡ 15
 unfolding problemOf rowAt u16At u32At sum ones

@@ -49,7 +49,8 @@ found-to-run-says book amounts flow =
     says-then _ (says-known (amounts-say book amounts)) (λ k vs (q, e). of-amounts q e) (λ n (_, reads).
     says-unless (flowTooShort (problemOf book) flow) 17 _ _ (λ t. flow-too-short reads (ltb→lt _ _ t)) (λ long.
     let enough = nltb→le (length flow) (problemOf book .lots * problemOf book .calls) long in
-    gives-less (or-13-says book (no-order reads enough)) (λ S found. (found, enough, (n, book-of-amounts book amounts n reads)))))
+    let readable : Readable book = (n, book-of-amounts book amounts n reads) in
+    gives-less (or-13-says (problemOf book) (no-order reads enough)) (λ S found. (found, enough, readable))))
 
 -- the flow buffer keeps its length
 pub length-findAndRunFlow : (book amounts flow : List ℕ) → length (findAndRunFlow book amounts flow) ≡ length flow
@@ -95,7 +96,7 @@ module _ (book order amounts flow : List ℕ) (found : find (problemOf book) ≡
       by-book : (r : Reply Size) → readBook book ≡ r → (findAndRun book amounts flow ≡ runOrder book order amounts flow)
           × (findAndRunFlow book amounts flow ≡ runFlow book order amounts flow)
       by-book (gives n) e =
-          rw (passes (n, e)) (same-steps (readAmounts book amounts) (flowTooShort (problemOf book) flow) (orderOr13 book) (orderPairs order)
+          rw (passes (n, e)) (same-steps (readAmounts book amounts) (flowTooShort (problemOf book) flow) (orderOr13 (problemOf book)) _
           (rw (found, orderOr13) refl) _ flow _)
       by-book (refuses k vs) e = rw (amounts-refused book k vs e amounts, check-refused-too book k vs e order) (refl, refl)
 

@@ -5,19 +5,22 @@ use mathlib.Core.List.{List, [], _++_}
 use mathlib.Core.Option.{Option, some, none}
 use Prim.Native.Nat.{ℕ, _≤_, _<_}
 use native.Mathlib.Omega.{arith}
-use lib.Dec.{ltb, ltb→lt, nltb→le}
+use lib.Dec.{ltb, ltb→lt, nltb→le, lit≤}
 use lib.ListN.{length, take, drop, length-append, length-drop}
+use Rattle.transport.specs.Problem.{Problem}
 use Rattle.transport.specs.Greedy.{Pair}
 use Rattle.transport.specs.Finder.{find, size}
 use Rattle.transport.proofs.Orders.Lists.{lists-of-order}
 use Rattle.transport.proofs.Orders.Length.{order-length}
-use Rattle.transport.proofs.Finder.Find.{find-is-order, find-is-monge}
+use Rattle.transport.proofs.Greedy.Optimal.{good-of-monge}
+use Rattle.transport.proofs.Greedy.Converse.{monge-of-good}
+use Rattle.transport.proofs.Finder.Find.{find-is-order, find-is-monge, find-none}
 use Rattle.specification.specs.declared.Refusal.the-variants as refusal
 use Rattle.specification.specs.Reply.{gives, refuses}
 use Rattle.specification.specs.Book.{readBook, problemOf}
 use Rattle.specification.specs.OrderFile.{orderFile}
 use Rattle.specification.specs.Find.{orderLength, orderOr13, foundOrder, findOrder, findBuffer}
-use Rattle.specification.specs.Demands.{InTable, Readable, Passing, returned}
+use Rattle.specification.specs.Demands.{InTable, Readable, Passing, returned, GoodOrder}
 use Rattle.specification.proofs.Replies.{
   Says,
   giving,
@@ -40,13 +43,19 @@ use Rattle.specification.proofs.OrderFiles.{
   order-file-bytes,
 }
 
+-- what is found is a good order, and where nothing is found there is none
+module _ (P : Problem) where
+  pub found-is-good : (S : List Pair) → find P ≡ some S → GoodOrder P S
+  found-is-good S found = let order = find-is-order P S found in (order, good-of-monge order (find-is-monge P S found) _)
+
+  pub none-is-good : find P ≡ none → (S : List Pair) → GoodOrder P S → ⊥
+  none-is-good found S (order, good) = find-none P found S order (monge-of-good _ P S order good (lit≤ tt))
+
 -- the finder's answer, or 13
-pub or-13-says : (book : List ℕ) {Q : ℕ → List ℕ → Type 0} → (find (problemOf book) ≡ none → Q 13 [])
-    → Says (λ S. find (problemOf book) ≡ some S) Q (orderOr13 book)
-or-13-says book {Q} never = by-answer (find (problemOf book)) refl
+pub or-13-says : (P : Problem) {Q : ℕ → List ℕ → Type 0} → (find P ≡ none → Q 13 []) → Says (λ S. find P ≡ some S) Q (orderOr13 P)
+or-13-says P {Q} never = by-answer (find P) refl
   where
-    by-answer : (o : Option (List Pair)) → find (problemOf book) ≡ o
-        → Says (λ S. find (problemOf book) ≡ some S) Q (elim o [ none ↦ refuses 13 [] | some S ↦ gives S ])
+    by-answer : (o : Option (List Pair)) → find P ≡ o → Says (λ S. find P ≡ some S) Q (elim o [ none ↦ refuses 13 [] | some S ↦ gives S ])
     by-answer none e = refusing (never e)
     by-answer (some S) e = giving e
 
@@ -67,7 +76,8 @@ found-says book buffer =
     says-then _ (says-known (book-says book)) (λ k vs (q, e). of-book q e) (λ n (read, reads).
     says-unless (ltb (length buffer) (orderLength book)) 17 _ _ (λ t. buffer-too-short (n, reads) (ltb→lt _ _ t)) (λ long.
     let enough = nltb→le (length buffer) (orderLength book) long in
-    gives-less (or-13-says book (no-order (n, reads) enough)) (λ S found. record { readable = (n, reads); long = enough; found = found })))
+    gives-less (or-13-says (problemOf book) (no-order (n, reads) enough))
+    (λ S found. record { readable = (n, reads); long = enough; found = found })))
 
 pub find-says : (book buffer : List ℕ)
     → Says (λ n. (n ≡ orderLength book) × (S : List Pair) × FindGave book buffer S × (foundOrder book buffer ≡ gives S))

@@ -18,6 +18,7 @@ pub mod Verdicts  -- what a verdict says of GREEDY's last state
 pub mod Runs  -- what running an order says, of every order that passes
 pub mod Finds  -- what finding an order says
 pub mod FindRuns  -- finding and running in one call is the run by the order found
+pub mod IdleRuns  -- what finding and running with an idle call says
 pub mod Bounds  -- units and cost fit 64 bits
 pub mod Demands  -- the three demands, proved
 pub mod Examples  -- the demands speak of something: F1 and F9

@@ -2,7 +2,7 @@
 -- are GREEDY's. What holds of every order that passes is proved here: by the theorems on Monge sequences its runs are Full exactly when
 -- some allocation meets everything, Covered or Full exactly when one meets every call, and no allocation has more units, or costs less
 -- where it meets everything.
-use mathlib.Core.Path.{_≡_, refl, _∙_, ap}
+use mathlib.Core.Path.{_≡_, refl, ap}
 use mathlib.Core.Logic.{_⊎_, inl, inr, Iff·trans, Iff·symm}
 use mathlib.Core.List.{List, []}
 use Prim.Native.Nat.{ℕ, _*_, _≤_, _<_}
@@ -12,10 +12,10 @@ use lib.ListN.{length}
 use Rattle.transport.specs.Problem.{Problem}
 use Rattle.transport.specs.Greedy.{State}
 use Rattle.transport.proofs.Orders.Lists.{lists-of-order}
-use Rattle.transport.proofs.Greedy.Given.{greedy-allocation}
+use Rattle.transport.proofs.Greedy.Given.{Kept, kept-meets, kept-meets-calls, greedy-kept}
 use Rattle.transport.proofs.Greedy.Optimal.{greedy-most-units, greedy-least-cost, good-of-monge}
-use Rattle.transport.proofs.Theorems.{greedy-leaves, greedy-lacks, greedy-meets-iff-spent, greedy-spends-iff}
-use Rattle.transport.proofs.Theorems.Covered.{greedy-meets-calls-iff, greedy-covers-iff}
+use Rattle.transport.proofs.Theorems.{greedy-spends-iff}
+use Rattle.transport.proofs.Theorems.Covered.{greedy-covers-iff}
 use Rattle.specification.specs.declared.Refusal.the-variants as refusal
 use Rattle.specification.specs.Reply.{gives, refuses, Size, Outcome}
 use Rattle.specification.specs.Book.{problemOf}
@@ -39,7 +39,7 @@ use Rattle.specification.proofs.Books.{BookRead}
 use Rattle.specification.proofs.AmountsFiles.{AmountsRead, AmountsOrBookRefused, amounts-say}
 use Rattle.specification.proofs.Lines.{amounts-in-table}
 use Rattle.specification.proofs.Checks.{CheckRefused, check-says, check-in-table, check-passes}
-use Rattle.specification.proofs.Verdicts.{full-iff-spent, covered-iff, short-iff, met-iff-none-lacks}
+use Rattle.specification.proofs.Verdicts.{full-iff-spent, covered-iff, short-iff, verdicts-of}
 use Rattle.specification.proofs.Flows.{length-flowOf, flow-at, flow-kept, units-over-flow, cost-over-flow}
 
 pub data RunRefused (book order amounts flow : List ℕ) : ℕ → List ℕ → Type 0 where
@@ -62,6 +62,31 @@ pub record RunGave (book order amounts flow : List ℕ) (o : Outcome) : Type 0 w
   pub passing : Passing book order
   pub read : (n : Size) × BookRead book n × AmountsRead n amounts
   pub long : problemOf book .lots * problemOf book .calls ≤ length flow
+
+-- a state that keeps the amounts, nothing being still to come: its outcome and flow are what a run writes and replies
+pub ran-of : (P : Problem) {a b : ℕ → ℕ} {s : State} → Kept P a b [] s → (flow : List ℕ) → P .lots * P .calls ≤ length flow
+    → Ran P a b (s .given) flow (flowOf P (s .given) flow) (outcome P s)
+ran-of P {a} {b} {s} kept flow long = record {
+  flow = flow-at P _ flow;
+  not-eligible = kept .eligible-only;
+  kept = flow-kept P _ flow;
+  as-many = length-flowOf P _ flow long;
+  its-units = refl;
+  its-cost = refl;
+  units-of-flow = units-over-flow P _ flow;
+  cost-of-flow = cost-over-flow P _ flow;
+  full-told = Iff·trans (full-iff-spent P s) (Iff·symm (kept-meets kept));
+  covered-told = (
+    λ e.
+        let (none, (i, h, some)) = covered-iff P s .0 e in
+        (kept-meets-calls kept .1 none, (i, h, omega (arith, kept .lot-kept i h))),
+    λ (met, (i, h, below)). covered-iff P s .1 (kept-meets-calls kept .0 met, (i, h, omega (arith, kept .lot-kept i h))),
+  );
+  short-told = (
+    λ e. let (j, h, some) = short-iff P s .0 e in (j, h, omega (arith, kept .call-kept j h)),
+    λ (j, h, below). short-iff P s .1 (j, h, omega (arith, kept .call-kept j h)),
+  );
+}
 
 module _ (book order amounts flow : List ℕ) where
   pub run-says : Says (RunGave book order amounts flow) (RunRefused book order amounts flow) (runOrder book order amounts flow)
@@ -90,46 +115,20 @@ module _ (book order amounts flow : List ℕ) where
     pub ran : Ran (problemOf book) (lotAmount amounts) (callAmount book amounts) (greedyOn book (orderPairs order) amounts .given)
         flow (runFlow book order amounts flow) o
     ran =
-        let P : Problem = problemOf book in
-        let each-once = said-of-given run-says o e .passing .each-once in
-        let by : State = greedyOn book (orderPairs order) amounts in
-        let (a, b) : (ℕ → ℕ) × (ℕ → ℕ) = (lotAmount amounts, callAmount book amounts) in
-        rw run-flow-is (record {
-          flow = flow-at P _ flow;
-          not-eligible = greedy-allocation (lists-of-order each-once) a b .eligible-only;
-          kept = flow-kept P _ flow;
-          as-many = length-flowOf P _ flow (said-of-given run-says o e .long);
-          its-units = ap (λ r. r .units) outcome-is;
-          its-cost = ap (λ r. r .cost) outcome-is;
-          units-of-flow = ap (λ r. r .units) outcome-is ∙ units-over-flow P _ flow;
-          cost-of-flow = ap (λ r. r .cost) outcome-is ∙ cost-over-flow P _ flow;
-          full-told = rw outcome-is (Iff·trans (full-iff-spent P by) (Iff·symm (greedy-meets-iff-spent each-once a b)));
-          covered-told = rw outcome-is (
-            λ e.
-                let (none, (i, h, some)) = covered-iff P by .0 e in
-                (greedy-meets-calls-iff each-once a b .1 none, (i, h, omega (arith, greedy-leaves each-once a b i h))),
-            λ (met, (i, h, below)).
-                covered-iff P by .1 (greedy-meets-calls-iff each-once a b .0 met, (i, h, omega (arith, greedy-leaves each-once a b i h))),
-          );
-          short-told = rw outcome-is (
-            λ e. let (j, h, some) = short-iff P by .0 e in (j, h, omega (arith, greedy-lacks each-once a b j h)),
-            λ (j, h, below). short-iff P by .1 (j, h, omega (arith, greedy-lacks each-once a b j h)),
-          );
-        })
+        let gave = said-of-given run-says o e in
+        rw (run-flow-is, outcome-is) (ran-of (problemOf book) (greedy-kept (lists-of-order (gave .passing .each-once)) _ _) flow (gave .long))
 
 -- every order that passes is good, gives most units, and its runs are refused for the amounts or the buffer alone
 module _ (book order : List ℕ) (passing : Passing book order) where
   -- the outcome of GREEDY by it, on the amounts of a file
   passing-best : (amounts : List ℕ) → Best book amounts (outcome (problemOf book) (greedyOn book (orderPairs order) amounts))
   passing-best amounts =
-      let P : Problem = problemOf book in
       let by : State = greedyOn book (orderPairs order) amounts in
       let (a, b) : (ℕ → ℕ) × (ℕ → ℕ) = (lotAmount amounts, callAmount book amounts) in
       record {
-        verdicts = record {
-          full-iff = Iff·trans (full-iff-spent P by) (greedy-spends-iff (passing .each-once) (passing .monge) a b);
-          met-iff = Iff·trans (met-iff-none-lacks P by) (greedy-covers-iff (passing .each-once) (passing .monge) a b);
-        };
+        verdicts = verdicts-of book amounts by
+            (greedy-spends-iff (passing .each-once) (passing .monge) a b)
+            (greedy-covers-iff (passing .each-once) (passing .monge) a b);
         least-cost = λ x m. greedy-least-cost (passing .each-once) (passing .monge) a b m .1;
         greatest-units = λ x h. greedy-most-units (passing .each-once) (passing .monge) a b h;
       }

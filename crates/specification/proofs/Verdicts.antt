@@ -3,15 +3,19 @@
 use mathlib.Core.Path.{_≡_, refl, sym}
 use mathlib.Core.Logic.{_⊎_, inl, inr, ⊎-elim, _↔_, Iff·trans}
 use mathlib.Core.Bool.{Bool, true, false}
+use mathlib.Core.List.{List}
 use Prim.Native.Nat.{ℕ, zero, suc, _<_}
 use native.Mathlib.Omega.{arith}
 use lib.Dec.{T, eqb, eqb→eq}
-use Rattle.transport.specs.Problem.{Problem}
+use Rattle.transport.specs.Problem.{Problem, Meets, MeetsCalls}
 use Rattle.transport.specs.Greedy.{State}
 use Rattle.transport.proofs.Laws.Searches.{every-says, every-of, every-fails}
 use Rattle.transport.proofs.Greedy.Given.{Spent, NoneLacks}
 use Rattle.specification.specs.Reply.{full, covered, short}
-use Rattle.specification.specs.Run.{allZero, verdictBy, verdictOf}
+use Rattle.specification.specs.Book.{problemOf}
+use Rattle.specification.specs.Amounts.{lotAmount, callAmount}
+use Rattle.specification.specs.Run.{allZero, verdictBy, verdictOf, outcome}
+use Rattle.specification.specs.Demands.{Verdicts}
 
 -- no two verdicts are the same
 full-not-covered : full ≡ covered → ⊥
@@ -87,5 +91,15 @@ module _ (P : Problem) (s : State) where
   pub short-iff : (verdictOf P s ≡ short) ↔ ((j : ℕ) × (j < P .calls) × (0 < s .lacks j))
   short-iff = Iff·trans (tests .short-is) (not-all-zero-iff (P .calls) (s .lacks))
 
-  pub met-iff-none-lacks : ((verdictOf P s ≡ full) ⊎ (verdictOf P s ≡ covered)) ↔ NoneLacks P s
+  met-iff-none-lacks : ((verdictOf P s ≡ full) ⊎ (verdictOf P s ≡ covered)) ↔ NoneLacks P s
   met-iff-none-lacks = Iff·trans (tests .met-is) (all-zero-iff (P .calls) (s .lacks))
+
+-- so the verdict says of the allocations of a book and its amounts what the state that leaves nothing, or lacks nothing, does
+pub verdicts-of : (book amounts : List ℕ) (s : State)
+    → Spent (problemOf book) s ↔ ((x : ℕ → ℕ → ℕ) × Meets (problemOf book) (lotAmount amounts) (callAmount book amounts) x)
+    → NoneLacks (problemOf book) s ↔ ((x : ℕ → ℕ → ℕ) × MeetsCalls (problemOf book) (lotAmount amounts) (callAmount book amounts) x)
+    → Verdicts book amounts (outcome (problemOf book) s)
+verdicts-of book amounts s spends covers = record {
+  full-iff = Iff·trans (full-iff-spent (problemOf book) s) spends;
+  met-iff = Iff·trans (met-iff-none-lacks (problemOf book) s) covers;
+}

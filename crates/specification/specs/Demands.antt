@@ -19,6 +19,7 @@ use Rattle.specification.specs.OrderFile.{orderCount, orderPairs, orderF
 use Rattle.specification.specs.Check.{checkOrder}
 use Rattle.specification.specs.Run.{greedyOn, runOrder, runFlow}
 use Rattle.specification.specs.Find.{orderLength, findOrder, findBuffer, findAndRun, findAndRunFlow}
+use Rattle.specification.specs.Idle.{findAndRunIdle, findAndRunIdleFlow}
 use Rattle.specification.specs.Text.{decimal, line, refusedWord, textOf, bookMost, printed}
 
 -- "a number from the table in document 01", and the values that its line returns
@@ -50,6 +51,9 @@ pub record Demand1 : Type 0 where
   pub find : (book buffer : List ℕ) → Answered (findOrder book buffer) buffer (findBuffer book buffer)
   -- finding and running in one call
   pub find-and-run : (book amounts flow : List ℕ) → Answered (findAndRun book amounts flow) flow (findAndRunFlow book amounts flow)
+  -- with an idle call (document 02, request 2)
+  pub find-and-run-idle : (book amounts flow : List ℕ)
+      → Answered (findAndRunIdle book amounts flow) flow (findAndRunIdleFlow book amounts flow)
   -- "(a lot's costs: by an empty stretch)": of a refused book
   pub costs-of-refused : (book : List ℕ) (lot k : ℕ) (vs : List ℕ) → readBook book ≡ refuses k vs → lotCosts book lot ≡ []
   -- and of a lot number n or more
@@ -165,8 +169,8 @@ pub record Demand2 : Type 0 where
 
 -- "An order of the eligible pairs is good if, for all amounts of equal total within the limits, GREEDY by it meets everything whenever
 -- some allocation does, and every other allocation that meets everything costs at least as much" (`Good`, in transport)
-abbrev pub GoodOrder : List ℕ → List Pair → Type 0
-GoodOrder book S = OrderOf (problemOf book) S × Good amountLimit (problemOf book) S
+abbrev pub GoodOrder : Problem → List Pair → Type 0
+GoodOrder P S = OrderOf P S × Good amountLimit P S
 
 -- what the verdict of an accepted run says, of the allocations of its book and amounts
 pub record Verdicts (book amounts : List ℕ) (o : Outcome) : Type 0 where
@@ -189,7 +193,7 @@ pub record Best (book amounts : List ℕ) (o : Outcome) : Type 0 where
 -- what holds of an order file that passes the check, and of every run of the book by it
 pub record ByPassing (book order : List ℕ) : Type 0 where
   -- "The returned order is good"
-  pub good : GoodOrder book (orderPairs order)
+  pub good : GoodOrder (problemOf book) (orderPairs order)
   -- "Whatever the amounts within the limits, totals equal or not, every other allocation has at most as many units as GREEDY by it"
   pub most-units : (a b : ℕ → ℕ) → Within amountLimit (problemOf book) a b → (x : ℕ → ℕ → ℕ) → Allocation (problemOf book) a b x
       → units (problemOf book) x ≤ units (problemOf book) (greedy (orderPairs order) a b .given)
@@ -208,10 +212,10 @@ pub record Demand3 : Type 0 where
   -- "For every readable book the finder, given a long enough buffer, returns an order exactly when some order of the eligible pairs is
   -- good": when; only when, since the returned order is one
   pub finds : (book buffer : List ℕ) → Readable book → orderLength book ≤ length buffer
-      → (S : List Pair) → GoodOrder book S → findOrder book buffer ≡ gives (orderLength book)
+      → (S : List Pair) → GoodOrder (problemOf book) S → findOrder book buffer ≡ gives (orderLength book)
   -- "and replies 13 otherwise"
   pub or-13 : (book buffer : List ℕ) → Readable book → orderLength book ≤ length buffer
-      → ((S : List Pair) → GoodOrder book S → ⊥) → findOrder book buffer ≡ refuses 13 []
+      → ((S : List Pair) → GoodOrder (problemOf book) S → ⊥) → findOrder book buffer ≡ refuses 13 []
   -- there is no third reply
   pub one-of-two : (book buffer : List ℕ) → Readable book → orderLength book ≤ length buffer
       → (findOrder book buffer ≡ gives (orderLength book)) ⊎ (findOrder book buffer ≡ refuses 13 [])
@@ -221,7 +225,7 @@ pub record Demand3 : Type 0 where
   -- it is one of those that pass, and the same holds of each of them
   pub by-passing : (book order : List ℕ) (n : ℕ) → checkOrder book order ≡ gives n → ByPassing book order
   -- which are the files of the good orders: one that holds a good order passes
-  pub good-passes : (book order : List ℕ) → Readable book → OrderShaped order → GoodOrder book (orderPairs order)
+  pub good-passes : (book order : List ℕ) → Readable book → OrderShaped order → GoodOrder (problemOf book) (orderPairs order)
       → checkOrder book order ≡ gives (orderCount order)
   -- so it holds of every run "that isn't refused" (request 1)
   pub run : (book order amounts flow : List ℕ) (o : Outcome) → runOrder book order amounts flow ≡ gives o → Best book amounts o

@@ -4,6 +4,7 @@ use mathlib.Core.Option.{some, none}
 use Prim.Native.Nat.{ℕ, _+_, _*_}
 use lib.ListN.{length, drop}
 use lib.Dec.{ltb}
+use Rattle.transport.specs.Problem.{Problem}
 use Rattle.transport.specs.Greedy.{Pair}
 use Rattle.transport.specs.Finder.{find, size}
 use Rattle.specification.specs.Reply.{Reply, gives, refuses, refuseIf, _>>=_, afterwards, Outcome}
@@ -17,15 +18,15 @@ abbrev pub orderLength : List ℕ → ℕ
 orderLength book = 7 + 2 * size (problemOf book)
 
 -- the order that the finder takes pair by pair, or 13: "If pairs remain and none is free, no order exists"
-abbrev pub orderOr13 : List ℕ → Reply (List Pair)
-orderOr13 book = elim (find (problemOf book)) [ none ↦ refuses 13 [] | some S ↦ gives S ]
+abbrev pub orderOr13 : Problem → Reply (List Pair)
+orderOr13 P = elim (find P) [ none ↦ refuses 13 [] | some S ↦ gives S ]
 
 -- the order that is found: "book, .. then 17, and 13 last"
 unfoldable pub foundOrder : List ℕ → List ℕ → Reply (List Pair)
 foundOrder book buffer = do
   _ ← readBook book
   _ ← refuseIf (ltb (length buffer) (orderLength book)) 17 []
-  orderOr13 book
+  orderOr13 (problemOf book)
 
 -- it "replies with the file's length"
 unfoldable pub findOrder : List ℕ → List ℕ → Reply ℕ
@@ -42,7 +43,7 @@ unfoldable pub foundToRun : List ℕ → List ℕ → List ℕ → Reply (List P
 foundToRun book amounts flow = do
   _ ← readAmounts book amounts
   _ ← refuseIf (flowTooShort (problemOf book) flow) 17 []
-  orderOr13 book
+  orderOr13 (problemOf book)
 
 -- it "replies and writes as the run by the order found": its reply
 unfoldable pub findAndRun : List ℕ → List ℕ → List ℕ → Reply Outcome

@@ -63,6 +63,8 @@ stated refusal.PairMissing = line 14 []
 stated refusal.CountsDiffer = line 15 []
 stated refusal.AmountTooHigh = line 16 []
 stated refusal.BufferTooShort = line 17 []
+stated refusal.CallsExceedLots = line 18 []
+stated refusal.NoIdleCall = line 19 []
 
 -- refused for this cause
 abbrev pub refused : {A : Type 0} → Refusal → Reply A

@@ -11,7 +11,8 @@ pub struct Lot(pub usize);
 // "and a call by its call number" (Words).
 pub struct Call(pub usize);
 
-// The causes of the table under "Refused", in its order, with the values that it returns beside the number.
+// The causes of the table under "Refused", in its order, with the values that it returns beside the number; "These and all later new numbers
+// join 01's table, return the number alone" (document 02, request 2).
 pub enum Refusal {
     // 1: file under 7 bytes
     UnderSeven,
@@ -47,6 +48,10 @@ pub enum Refusal {
     AmountTooHigh,
     // 17: lent buffer too short
     BufferTooShort,
+    // 18: run with an idle call: the calls' total exceeds the lots' total
+    CallsExceedLots,
+    // 19: run with an idle call: the book already has 32 calls
+    NoIdleCall,
 }
 
 // "Reading a book, or amounts with their book, replies n and m" (The three files).

@@ -1,6 +1,6 @@
 -- Calls met with stock to spare: along a Monge sequence GREEDY meets every call exactly when some allocation does, whatever the totals. Such
 -- an allocation has the calls' total of units, GREEDY has no fewer, and what its calls lack is the rest of that total.
-use mathlib.Core.Path.{_≡_, _∙_}
+use mathlib.Core.Path.{_≡_, sym, _∙_}
 use mathlib.Core.Logic.{_↔_}
 use mathlib.Core.List.{List}
 use Prim.Native.Nat.{ℕ, _+_, _≤_}
@@ -8,9 +8,9 @@ use native.Mathlib.Omega.{arith}
 use Rattle.transport.specs.Problem.{sum, Problem, lotSum, callSum, units, Meets, MeetsCalls, EqualTotals}
 use Rattle.transport.specs.Greedy.{Pair, State, greedy}
 use Rattle.transport.specs.Order.{OrderOf, Monge}
-use Rattle.transport.proofs.Laws.Sums.{sum-cong, sum-both, sum-swap, term-le-sum}
+use Rattle.transport.proofs.Laws.Sums.{sum-cong, sum-both, sum-swap, term-le-sum, sum-tight}
 use Rattle.transport.proofs.Orders.Lists.{lists-of-order}
-use Rattle.transport.proofs.Greedy.Given.{Kept, Spent, NoneLacks, allocation-of-meets, kept-meets-calls, greedy-kept}
+use Rattle.transport.proofs.Greedy.Given.{Kept, NoneLacks, allocation-of-meets, kept-meets-calls, greedy-kept}
 use Rattle.transport.proofs.Greedy.Optimal.{greedy-most-units}
 
 -- an allocation that meets every call has the calls' total of units
@@ -18,7 +18,7 @@ module _ {P : Problem} {a b : ℕ → ℕ} {x : ℕ → ℕ → ℕ} where
   pub units-of-meets-calls : MeetsCalls P a b x → units P x ≡ sum (P .calls) b
   units-of-meets-calls m = sum-swap (P .lots) (P .calls) x ∙ sum-cong (P .calls) (callSum P x) b (m .calls-met)
 
-  -- one that meets everything meets every call, and the totals are equal
+  -- it meets everything exactly when the totals are equal
   pub meets-calls-of-meets : Meets P a b x → MeetsCalls P a b x
   meets-calls-of-meets m = record { allocation = allocation-of-meets m; calls-met = m .call-met }
 
@@ -26,11 +26,15 @@ module _ {P : Problem} {a b : ℕ → ℕ} {x : ℕ → ℕ → ℕ} where
   totals-of-meets m =
       omega (arith, units-of-meets-calls (meets-calls-of-meets m), sum-cong (P .lots) (lotSum P x) a (m .lot-met))
 
-module _ {P : Problem} {a b : ℕ → ℕ} {S : List Pair} {s : State} (k : Kept P a b S s) where
-  -- what is left of the lots and what the calls lack, in all
-  kept-left : sum (P .lots) (s .left) + units P (s .given) ≡ sum (P .lots) a
-  kept-left = sum-both (P .lots) (s .left) (lotSum P (s .given)) a (k .lot-kept)
+  pub meets-of-totals : EqualTotals P a b → MeetsCalls P a b x → Meets P a b x
+  meets-of-totals equal m = record {
+    eligible-only = m .allocation .eligible-only;
+    lot-met = sum-tight (P .lots) (lotSum P x) a (m .allocation .lot-within) (units-of-meets-calls m ∙ sym equal);
+    call-met = m .calls-met;
+  }
 
+module _ {P : Problem} {a b : ℕ → ℕ} {S : List Pair} {s : State} (k : Kept P a b S s) where
+  -- what the calls lack, in all
   kept-lacks : sum (P .calls) (s .lacks) + units P (s .given) ≡ sum (P .calls) b
   kept-lacks = omega (
     arith,
@@ -41,18 +45,6 @@ module _ {P : Problem} {a b : ℕ → ℕ} {S : List Pair} {s : State} (k : Kept
   -- no call lacks anything once the calls' total is given
   kept-covers : sum (P .calls) b ≤ units P (s .given) → NoneLacks P s
   kept-covers all j h = omega (arith, kept-lacks, term-le-sum (P .calls) (s .lacks) j h)
-
-  -- and where no call lacks anything, nothing is left of lots of the same total
-  pub kept-spends : EqualTotals P a b → NoneLacks P s → Spent P s
-  kept-spends equal none = record {
-    lot-spent = λ i h. omega (
-      arith,
-      kept-left,
-      term-le-sum (P .lots) (s .left) i h,
-      units-of-meets-calls (kept-meets-calls k .1 none),
-    );
-    call-spent = none;
-  }
 
 -- GREEDY tells whether some allocation meets every call
 pub greedy-covers : {P : Problem} {S : List Pair} → OrderOf P S → Monge P S → (a b : ℕ → ℕ)

@@ -48,8 +48,12 @@ module _ (P : Problem) where
   unfolding sum
   cost-idle x = sum-cong (P .lots) _ _ (λ i r.
       let free : x i (P .calls) * withIdle P .cost i (P .calls) ≡ 0 = rw (put-same (P .cost i) (P .calls) 0) (mul-zero (x i (P .calls))) in
-      omega (arith, free, sum-cong (P .calls) (λ j. x i j * withIdle P .cost i j) (λ j. x i j * P .cost i j)
-          (λ j h. rw (put-below (P .cost i) (P .calls) 0 j h))))
+      omega (
+        arith,
+        free,
+        sum-cong (P .calls) (λ j. x i j * withIdle P .cost i j) (λ j. x i j * P .cost i j)
+            (λ j h. rw (put-below (P .cost i) (P .calls) 0 j h)),
+      ))
 
   module _ (a b : ℕ → ℕ) where
     -- a run of the enlarged problem, seen from the problem itself
@@ -79,15 +83,18 @@ module _ (P : Problem) where
     pub add-idle : {x : ℕ → ℕ → ℕ} → MeetsCalls P a b x
         → Meets (withIdle P) a (idleAmounts P a b) (withLeft P a x) × (totalCost (withIdle P) (withLeft P a x) ≡ totalCost P x)
     unfolding sum
-    add-idle {x} m = (record {
-      eligible-only = λ i j n. put-is (x i) (P .calls) _ j 0
-          (λ e. counted-none (ltb i (P .lots)) _ (λ t. absurd (n (rw e (idle-pair i (ltb→lt i (P .lots) t))))))
-          (λ ne. m .allocation .eligible-only i j (λ e. n (real-pair i j e)));
-      lot-met = λ i h. omega (arith, whole i h, lotSum-same P (withLeft P a x) x real i);
-      call-met = λ j h. sym (put-is b (P .calls) _ j _
-          (λ e. rw e (omega (arith, sum-both (P .lots) _ _ a whole, units-of-meets-calls m)))
-          (λ ne. let h′ : j < P .calls = omega arith in omega (arith, m .calls-met j h′, callSum-same P (withLeft P a x) x real j h′)));
-    }, cost-idle (withLeft P a x) ∙ totalCost-same P (withLeft P a x) x real)
+    add-idle {x} m = (
+      record {
+        eligible-only = λ i j n. put-is (x i) (P .calls) _ j 0
+            (λ e. counted-none (ltb i (P .lots)) _ (λ t. absurd (n (rw e (idle-pair i (ltb→lt i (P .lots) t))))))
+            (λ ne. m .allocation .eligible-only i j (λ e. n (real-pair i j e)));
+        lot-met = λ i h. omega (arith, whole i h, lotSum-same P (withLeft P a x) x real i);
+        call-met = λ j h. sym (put-is b (P .calls) _ j _
+            (λ e. rw e (omega (arith, sum-both (P .lots) _ _ a whole, units-of-meets-calls m)))
+            (λ ne. let h′ : j < P .calls = omega arith in omega (arith, m .calls-met j h′, callSum-same P (withLeft P a x) x real j h′)));
+      },
+      cost-idle (withLeft P a x) ∙ totalCost-same P (withLeft P a x) x real,
+    )
       where
         real : (i j : ℕ) → j < P .calls → withLeft P a x i j ≡ x i j
         real i = put-below (x i) (P .calls) _

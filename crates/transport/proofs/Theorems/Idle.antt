@@ -8,7 +8,7 @@ use Rattle.transport.specs.Greedy.{Pair, greedy}
 use Rattle.transport.specs.Order.{OrderOf, Monge}
 use Rattle.transport.specs.Idle.{withIdle, idleAmounts, withoutIdle, greedyIdle}
 use Rattle.transport.proofs.Greedy.Given.{Spent, NoneLacks, kept-allocation, kept-meets, kept-meets-calls}
-use Rattle.transport.proofs.Greedy.Calls.{meets-calls-of-meets, totals-of-meets, kept-spends}
+use Rattle.transport.proofs.Greedy.Calls.{meets-calls-of-meets, totals-of-meets, meets-of-totals}
 use Rattle.transport.proofs.Greedy.Idle.{withLeft, add-idle, drop-idle, idle-kept, idle-least}
 
 module _ (P : Problem) (a b : ℕ → ℕ) where
@@ -51,7 +51,7 @@ module _ (P : Problem) {S : List Pair} (order : OrderOf (withIdle P) S) (a b : �
 
     pub idle-spends-iff : Spent P (greedyIdle P S a b) ↔ ((x : ℕ → ℕ → ℕ) × Meets P a b x)
     idle-spends-iff =
-        let kept = idle-kept P order a b in (
-          λ spent. (greedyIdle P S a b .given, kept-meets kept .1 spent),
-          λ (x, m). kept-spends kept (totals-of-meets m) (idle-covers-iff .1 (x, meets-calls-of-meets m)),
+        let (spent, met) = kept-meets (idle-kept P order a b) in (
+          λ h. (greedyIdle P S a b .given, met h),
+          λ (x, m). spent (meets-of-totals (totals-of-meets m) (idle-cheapest x (meets-calls-of-meets m) .1)),
         )

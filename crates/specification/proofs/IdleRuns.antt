@@ -1,0 +1,189 @@
+-- What the run with an idle call says: the amounts are read, 18, 19 and 17 do not apply, and the outcome and the flow are those of the real
+-- calls by the order that is found for the enlarged book. That order is a Monge sequence of it, so by the theorems on the idle call the run is
+-- Full or Covered exactly when some allocation meets everything or every call, and no allocation that meets every call costs less.
+use mathlib.Core.Path.{_≡_, refl, sym, _∙_, ap}
+use mathlib.Core.Logic.{inr, ⊎-elim, _↔_}
+use mathlib.Core.List.{List, []}
+use mathlib.Core.Option.{some, none}
+use Prim.Native.Nat.{ℕ, _*_, _≤_, _<_}
+use native.Mathlib.Omega.{arith}
+use lib.Dec.{ltb, eqb, ltb→lt, nltb→le, eqb→eq, T-not}
+use lib.ListN.{length}
+use borrow.Author.Tests.{lt-ltb, le-ltb}
+use Rattle.transport.specs.Problem.{Problem}
+use Rattle.transport.specs.Greedy.{Pair}
+use Rattle.transport.specs.Order.{OrderOf, Monge}
+use Rattle.transport.specs.Finder.{find}
+use Rattle.transport.proofs.Greedy.Calls.{meets-calls-of-meets, totals-of-meets, meets-of-totals}
+use Rattle.transport.proofs.Greedy.Idle.{idle-kept}
+use Rattle.transport.proofs.Finder.Find.{find-is-order, find-is-monge}
+use Rattle.transport.proofs.Theorems.Idle.{idle-cheapest, idle-covers-iff, idle-spends-iff}
+use Rattle.specification.specs.declared.Refusal.the-variants as refusal
+use Rattle.specification.specs.Reply.{Reply, gives, refuses, Size, Outcome, full, covered}
+use Rattle.specification.specs.Book.{bookCalls, problemOf}
+use Rattle.specification.specs.Amounts.{readAmounts, lotAmount, callAmount}
+use Rattle.specification.specs.Run.{outcome, flowTooShort}
+use Rattle.specification.specs.Idle.{enlarged, lotsTotal, callsTotal, greedyIdleOn}
+use Rattle.specification.specs.Idle.{foundToRunIdle, findAndRunIdle, findAndRunIdleFlow}
+use Rattle.specification.specs.Demands.{InTable, Verdicts, GoodOrder}
+use Rattle.specification.specs.Requests.{SomeMeetsCalls, Allowed, IdleRun, Request2}
+use Rattle.specification.proofs.Replies.{
+  Says,
+  giving,
+  not-both,
+  said-of-given,
+  gives-if-never-refused,
+  refused-if-never-given,
+  gives-less,
+  says-known,
+  says-then,
+  says-unless,
+  says-afterwards,
+}
+use Rattle.specification.proofs.AmountsFiles.{AmountsOrBookRefused, amounts-say, amounts-read}
+use Rattle.specification.proofs.Lines.{amounts-in-table}
+use Rattle.specification.proofs.Verdicts.{verdicts-of}
+use Rattle.specification.proofs.Flows.{length-flowOf}
+use Rattle.specification.proofs.Runs.{ran-of}
+use Rattle.specification.proofs.Finds.{found-is-good, none-is-good, or-13-says}
+
+-- each where those before it do not apply
+pub data IdleRefused (book amounts flow : List ℕ) : ℕ → List ℕ → Type 0 where
+  of-amounts : {k : ℕ} {vs : List ℕ} → AmountsOrBookRefused book amounts k vs → readAmounts book amounts ≡ refuses k vs
+      → IdleRefused book amounts flow k vs
+  calls-exceed-lots : {n : Size} → readAmounts book amounts ≡ gives n → lotsTotal book amounts < callsTotal book amounts
+      → IdleRefused book amounts flow 18 []
+  no-idle-call : {n : Size} → readAmounts book amounts ≡ gives n → callsTotal book amounts ≤ lotsTotal book amounts
+      → n .calls ≡ 32 → IdleRefused book amounts flow 19 []
+  flow-too-short : {n : Size} → readAmounts book amounts ≡ gives n → callsTotal book amounts ≤ lotsTotal book amounts
+      → n .calls < 32 → length flow < n .lots * n .calls → IdleRefused book amounts flow 17 []
+  no-order : Allowed book amounts flow → find (enlarged book) ≡ none → IdleRefused book amounts flow 13 []
+
+-- each is a line of the table
+pub idle-in-table : {book amounts flow : List ℕ} {k : ℕ} {vs : List ℕ} → IdleRefused book amounts flow k vs → InTable k vs
+idle-in-table (of-amounts q e) = amounts-in-table q .0
+idle-in-table (calls-exceed-lots reads h) = (refusal.CallsExceedLots, refl, refl)
+idle-in-table (no-idle-call reads h e) = (refusal.NoIdleCall, refl, refl)
+idle-in-table (flow-too-short reads h few short) = (refusal.BufferTooShort, refl, refl)
+idle-in-table (no-order allowed e) = (refusal.NoOrder, refl, refl)
+
+-- the order of the enlarged book, where none of them applies
+pub record IdleGave (book amounts flow : List ℕ) (S : List Pair) : Type 0 where
+  pub allowed : Allowed book amounts flow
+  pub found : find (enlarged book) ≡ some S
+
+module _ (book amounts flow : List ℕ) where
+  pub found-idle-says : Says (IdleGave book amounts flow) (IdleRefused book amounts flow) (foundToRunIdle book amounts flow)
+  unfolding foundToRunIdle problemOf
+  found-idle-says =
+      says-then _ (says-known (amounts-say book amounts)) (λ k vs (q, e). of-amounts q e) (λ n ((read, _), reads).
+      says-unless (ltb (lotsTotal book amounts) (callsTotal book amounts)) 18 _ _ (λ t. calls-exceed-lots reads (ltb→lt _ _ t)) (λ enough.
+      let total = nltb→le _ _ enough in
+      says-unless (eqb (bookCalls book) 32) 19 _ _
+      (λ t. no-idle-call reads total (rw (read .sizes) (eqb→eq (bookCalls book) 32 t))) (λ other.
+      let not-32 : (bookCalls book ≡ 32 → ⊥) = λ e. T-not (eqb (bookCalls book) 32) other (rw e tt) in
+      let few : n .calls < 32 = rw (read .sizes) (omega (arith, read .calls-within)) in
+      says-unless (flowTooShort (problemOf book) flow) 17 _ _
+      (λ t. flow-too-short reads total few (rw (read .sizes) (ltb→lt _ _ t))) (λ enough-room.
+      let long : n .lots * n .calls ≤ length flow = rw (read .sizes) (nltb→le _ _ enough-room) in
+      let allowed : Allowed book amounts flow = record { size = n; reads = reads; not-18 = total; not-19 = few; not-17 = long } in
+      gives-less (or-13-says (enlarged book) (no-order allowed)) (λ S found. record { allowed = allowed; found = found })))))
+
+  -- the flow has an entry for each pair of a lot and a call
+  long-enough : Allowed book amounts flow → problemOf book .lots * problemOf book .calls ≤ length flow
+  unfolding problemOf
+  long-enough allowed = rw (amounts-read book amounts (allowed .size) (allowed .reads) .0 .sizes) at (allowed .not-17)
+
+  -- the flow buffer keeps its length
+  pub length-findAndRunIdleFlow : length (findAndRunIdleFlow book amounts flow) ≡ length flow
+  unfolding findAndRunIdleFlow
+  length-findAndRunIdleFlow = says-afterwards flow _ (λ s. length s ≡ length flow) found-idle-says refl
+      (λ S gave. length-flowOf (problemOf book) _ flow (long-enough (gave .allowed)))
+
+  pub idle-says : Says (λ o. (S : List Pair) × IdleGave book amounts flow S × (foundToRunIdle book amounts flow ≡ gives S)
+      × (o ≡ outcome (problemOf book) (greedyIdleOn book S amounts)))
+      (IdleRefused book amounts flow) (findAndRunIdle book amounts flow)
+  unfolding findAndRunIdle
+  idle-says = says-then _ (says-known found-idle-says) (λ k vs q. q .0) (λ S (gave, it). giving (S, gave, it, refl))
+
+-- what the two totals say of a verdict: Full where they are equal, and Covered where the lots' is higher
+module _ (book amounts : List ℕ) (o : Outcome) (enough : callsTotal book amounts ≤ lotsTotal book amounts)
+    (verdicts : Verdicts book amounts o) where
+  full-by-totals : (o .verdict ≡ full) ↔ ((callsTotal book amounts ≡ lotsTotal book amounts) × SomeMeetsCalls book amounts)
+  unfolding problemOf
+  full-by-totals = (
+    λ e. let (x, m) = verdicts .full-iff .0 e in (sym (totals-of-meets m), (x, meets-calls-of-meets m)),
+    λ (equal, (x, m)). verdicts .full-iff .1 (x, meets-of-totals (sym equal) m),
+  )
+
+  covered-by-totals : (o .verdict ≡ covered) ↔ ((callsTotal book amounts < lotsTotal book amounts) × SomeMeetsCalls book amounts)
+  covered-by-totals = (
+    λ e.
+        let some-meets = verdicts .met-iff .0 (inr e) in
+        let differ : (callsTotal book amounts ≡ lotsTotal book amounts → ⊥) =
+        λ equal. not-covered e (full-by-totals .1 (equal, some-meets)) in
+        (omega (arith, enough, differ), some-meets),
+    λ (less, some-meets). ⊎-elim (λ e. absurd (omega (arith, full-by-totals .0 e .0))) (λ e. e) (verdicts .met-iff .1 some-meets),
+  )
+    where
+      not-covered : o .verdict ≡ covered → o .verdict ≡ full → ⊥
+      not-covered e f = let z : _≡_ {A = ℕ} 0 1 = cc in omega arith
+
+-- an accepted run, by the order found
+idle-run-by : (book amounts flow : List ℕ) (o : Outcome) (S : List Pair) → IdleGave book amounts flow S
+    → foundToRunIdle book amounts flow ≡ gives S → o ≡ outcome (problemOf book) (greedyIdleOn book S amounts) → IdleRun book amounts flow o
+unfolding findAndRunIdleFlow
+idle-run-by book amounts flow o S gave it is =
+    let P : Problem = problemOf book in
+    let (a, b) : (ℕ → ℕ) × (ℕ → ℕ) = (lotAmount amounts, callAmount book amounts) in
+    let order : OrderOf (enlarged book) S = find-is-order (enlarged book) S (gave .found) in
+    let monge : Monge (enlarged book) S = find-is-monge (enlarged book) S (gave .found) in
+    let verdicts : Verdicts book amounts o =
+    rw is (verdicts-of book amounts _ (idle-spends-iff P order a b monge) (idle-covers-iff P order a b monge)) in
+    record {
+      order = S;
+      found = gave .found;
+      ran = rw (it, is) (ran-of P (idle-kept P order a b) flow (long-enough book amounts flow (gave .allowed)));
+      least-cost = λ x m. rw is (idle-cheapest P order a b monge x m .2);
+      verdicts = verdicts;
+      full-iff = full-by-totals book amounts o (gave .allowed .not-18) verdicts;
+      covered-iff = covered-by-totals book amounts o (gave .allowed .not-18) verdicts;
+    }
+
+-- amounts are read with one size
+same-size : (book amounts : List ℕ) {n m : Size} → readAmounts book amounts ≡ gives n → readAmounts book amounts ≡ gives m → n ≡ m
+same-size book amounts e f = amounts-read book amounts _ e .0 .sizes ∙ sym (amounts-read book amounts _ f .0 .sizes)
+
+-- where none of the refusals before 13 applies, there is no other
+module _ (book amounts flow : List ℕ) (allowed : Allowed book amounts flow) where
+  only-13 : {k : ℕ} {vs : List ℕ} → IdleRefused book amounts flow k vs
+      → (_≡_ {A = Reply Outcome} (refuses k vs) (refuses 13 [])) × (find (enlarged book) ≡ none)
+  only-13 (of-amounts q e) = absurd (not-both (allowed .reads) e)
+  only-13 (calls-exceed-lots _ h) = absurd (omega (arith, allowed .not-18))
+  only-13 (no-idle-call reads _ e) = absurd (omega (arith, rw (same-size book amounts (allowed .reads) reads) at (allowed .not-19)))
+  only-13 (flow-too-short reads _ _ short) = absurd (omega (arith, rw (same-size book amounts (allowed .reads) reads) at (allowed .not-17)))
+  only-13 (no-order _ e) = (refl, e)
+
+  idle-found : (S : List Pair) → GoodOrder (enlarged book) S → (o : Outcome) × (findAndRunIdle book amounts flow ≡ gives o)
+  idle-found S good =
+      let (o, _, e) = gives-if-never-refused (idle-says book amounts flow) (λ k vs q. none-is-good (enlarged book) (only-13 q .1) S good) in
+      (o, e)
+
+  idle-refused : ((S : List Pair) → GoodOrder (enlarged book) S → ⊥) → findAndRunIdle book amounts flow ≡ refuses 13 []
+  idle-refused never =
+      let (k, vs, q, e) = refused-if-never-given (idle-says book amounts flow)
+      (λ o (S, gave, _, _). never S (found-is-good (enlarged book) S (gave .found))) in
+      e ∙ only-13 q .0
+
+pub request2 : Request2
+unfolding findAndRunIdle foundToRunIdle
+request2 = record {
+  runs = λ book amounts flow o e.
+      let (S, gave, it, is) = said-of-given (idle-says book amounts flow) o e in
+      idle-run-by book amounts flow o S gave it is;
+  refused-18 = λ book amounts flow n reads h. rw (reads, lt-ltb _ _ h) refl;
+  refused-19 = λ book amounts flow n reads h e.
+      rw (reads, le-ltb _ _ h, sym (ap (λ s. s .calls) (amounts-read book amounts n reads .0 .sizes)) ∙ e) refl;
+  finds = idle-found;
+  or-13 = idle-refused;
+}
