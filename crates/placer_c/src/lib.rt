@@ -11,6 +11,7 @@ ghost use Rattle.specification.specs.Amounts.{readAmounts};
 ghost use Rattle.specification.specs.Check.{checkOrder};
 ghost use Rattle.specification.specs.Run.{runOrder, runFlow};
 ghost use Rattle.specification.specs.Find.{findOrder, findBuffer, findAndRun, findAndRunFlow};
+ghost use Rattle.specification.specs.Idle.{findAndRunIdle, findAndRunIdleFlow};
 ghost use Rattle.placer_c.specs.Answers.{answerOf, counts, costOf, number, placed, stretchOf};
 
 // A reply: 0 or the refusal's number; 1 for Full, 2 for Short, 3 for Covered, else 0; and up to four values, the others 0.
@@ -109,4 +110,13 @@ pub extern "C" fn placer_find_and_run(book: &[u8], amounts: &[u8], flow: &mut [u
     ensures { λ _. ⌜ now (flow .exit) ≡ findAndRunFlow (now (book .entry)) (now (amounts .entry)) (now (flow .entry)) ⌝ }
 {
     told::placed(placer::find_and_run(book, amounts, flow))
+}
+
+// The same with an idle call, which takes what the calls leave: units and cost of the book's own calls, and their flow.
+#[no_mangle]
+pub extern "C" fn placer_find_and_run_idle(book: &[u8], amounts: &[u8], flow: &mut [u32]) -> Answer
+    ensures { λ r. ⌜ r ≡ answerOf placed (findAndRunIdle (now (book .entry)) (now (amounts .entry)) (now (flow .entry))) ⌝ }
+    ensures { λ _. ⌜ now (flow .exit) ≡ findAndRunIdleFlow (now (book .entry)) (now (amounts .entry)) (now (flow .entry)) ⌝ }
+{
+    told::placed(placer::find_and_run_idle(book, amounts, flow))
 }
