@@ -1,6 +1,7 @@
 -- Laws of the work arrays, which the functions' proofs cite.
 pub mod Tables  -- tables filled row by row
 pub mod Entering  -- the table of slacks that a book's rows make
+pub mod Idle  -- the idle call's slacks, and how many pairs are searched
 pub mod Asking  -- words filled from the slacks, and the calls to be asked for
 pub mod Lowering  -- least gaps worked out for the calls of a word
 pub mod Marks  -- what it is to be hindered

@@ -1,4 +1,5 @@
--- What the finder's work arrays hold.
+-- What is searched, and what the finder's work arrays hold.
+pub mod Searched  -- the book's problem, or the enlarged one
 pub mod Filling  -- a table of slacks filled from the book's rows
 pub mod Table  -- a table filled row by row
 pub mod Words  -- words of lots and calls

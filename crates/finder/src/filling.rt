@@ -1,4 +1,4 @@
-// The table of slacks, filled lot by lot from the rows of a book that was read.
+// The table of slacks, filled lot by lot from the rows of a book that was read, and the slacks of an idle call.
 use book::inner::cost_at;
 use book::inner::pair_count;
 use book::inner::set_from;
@@ -10,6 +10,7 @@ ghost use mathlib.Core.Path.{_≡_};
 ghost use Prim.Native.Nat.{_+_, _-_, _^_, _≤_, _<_};
 ghost use lib.ListN.{replicate};
 ghost use Rattle.transport.specs.Finder.{size};
+ghost use Rattle.transport.specs.Idle.{withIdle};
 ghost use Rattle.transport.proofs.Finder.Same.{Same};
 ghost use Rattle.specification.specs.Reply.{gives};
 ghost use Rattle.specification.specs.Bytes.{u32At};
@@ -87,4 +88,15 @@ pub fn fill_slacks(book: &[u8], n: usize, m: usize, slacks: &mut [u32; PAIRS]) -
         at = enter_lot(book, at, Lot(i), m, all, slacks);
     }
     pair_count(book, n)
+}
+
+// Enters the slacks of the idle call, the last: every lot has it at cost 0.
+pub fn add_idle(slacks: &mut [u32; PAIRS], n: usize, m: usize)
+    requires { ⌜ Slacks (now slacks) n m × (m < 32) ⌝ }
+    ensures { λ r. ⌜ Same (withIdle (bySlacks (now (slacks .entry)) n m)) (bySlacks (now (slacks .exit)) n (m + 1)) ⌝ }
+    ensures { λ r. ⌜ Slacks (now (slacks .exit)) n (m + 1) ⌝ }
+{
+    for i in 0..n {
+        slacks[SIDE * m + i] = SLACK_MOST;
+    }
 }

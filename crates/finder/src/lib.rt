@@ -31,7 +31,7 @@ pub fn find_order(book: &[u8], order: &mut [u8]) -> Found
     if order.len() < length {
         return Found::Refused(Refusal::BufferTooShort);
     }
-    let found = inner::find_by(book, n, m, order);
+    let found = inner::find_by(book, n, m, false, order);
     let Search::Found(_) = found else {
         return Found::Refused(Refusal::NoOrder);
     };

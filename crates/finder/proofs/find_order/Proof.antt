@@ -2,6 +2,7 @@
 -- Assumes nothing.
 use borrow.Author.Needs.{needs}
 use mathlib.Core.Path.{_≡_, sym, ap, _∙_}
+use mathlib.Core.Bool.{false≢true}
 use mathlib.Core.List.{List, []}
 use Prim.Native.Nat.{ℕ, _+_, _*_, _≤_}
 use native.Mathlib.Omega.{arith}
@@ -48,7 +49,7 @@ long-enough : (c : tie.Else1) → orderLength (book (c .before .before)) ≤ len
 long-enough c = omega (arith, c .before .pair-count .ensures, c .if1 .left)
 
 find-by-requires : tie.Need-find-by-requires
-find-by-requires c κs = (gave (c .before .before .before), long-enough (c .before))
+find-by-requires c κs = (gave (c .before .before .before), (λ e. absurd (false≢true e), long-enough (c .before)))
 
 returns-3 : tie.Need-returns-3
 returns-3 c =
