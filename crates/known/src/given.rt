@@ -1,4 +1,5 @@
-// The files of document 01's known examples, F1 to F14, of a lot that is eligible for no call, and amounts with stock to spare.
+// The files of document 01's known examples, F1 to F14, of a lot that is eligible for no call, amounts with stock to spare, and the files of
+// the runs with an idle call (document 02, request 2).
 
 // 2 by 2, costs 1 2 / 3 5
 pub const F1_BOOK: [u8; 31] =
@@ -79,3 +80,55 @@ pub const STRANDED_AMOUNTS: [u8; 23] =
 
 // lots 0 2, calls 0 0
 pub const IDLE_AMOUNTS: [u8; 23] = *b"CLA\x01\0\x02\x02\0\0\0\0\x02\0\0\0\0\0\0\0\0\0\0\0";
+
+// 2 by 2, costs 3 5 / 1 2
+pub const SPARE_BOOK: [u8; 31] =
+    *b"CLB\x01\0\x02\x02\x03\0\0\0\x03\0\0\0\x05\0\0\0\x03\0\0\0\x01\0\0\0\x02\0\0\0";
+
+// lots 3 4, calls 3 2
+pub const SPARE_AMOUNTS: [u8; 23] = *b"CLA\x01\0\x02\x02\x03\0\0\0\x04\0\0\0\x03\0\0\0\x02\0\0\0";
+
+// lots 0 0, calls 0 0
+pub const NO_AMOUNTS: [u8; 23] = *b"CLA\x01\0\x02\x02\0\0\0\0\0\0\0\0\0\0\0\0\0\0\0\0";
+
+// 3 by 2, (0, 0) and (2, 1) not eligible, costs - 1 / 0 0 / 1 -
+pub const CORNERS_BOOK: [u8; 35] =
+    *b"CLB\x01\0\x03\x02\x02\0\0\0\x01\0\0\0\x03\0\0\0\0\0\0\0\0\0\0\0\x01\0\0\0\x01\0\0\0";
+
+// lots 1 1 1, calls 1 1
+pub const CORNERS_AMOUNTS: [u8; 27] =
+    *b"CLA\x01\0\x03\x02\x01\0\0\0\x01\0\0\0\x01\0\0\0\x01\0\0\0\x01\0\0\0";
+
+// lots 1 0 0, calls 1 1
+pub const CORNERS_LESS: [u8; 27] =
+    *b"CLA\x01\0\x03\x02\x01\0\0\0\0\0\0\0\0\0\0\0\x01\0\0\0\x01\0\0\0";
+
+// lot 0, call 1,000,000,001
+pub const HIGH_CALL: [u8; 15] = *b"CLA\x01\0\x01\x01\0\0\0\0\x01\xca\x9a\x3b";
+
+// 5 by 1, not eligible
+pub const FIVE_BOOK: [u8; 27] = *b"CLB\x01\0\x05\x01\0\0\0\0\0\0\0\0\0\0\0\0\0\0\0\0\0\0\0\0";
+
+// lots 1,000,000,000 each, call 0
+pub const FIVE_AMOUNTS: [u8; 31] =
+    *b"CLA\x01\0\x05\x01\0\xca\x9a\x3b\0\xca\x9a\x3b\0\xca\x9a\x3b\0\xca\x9a\x3b\0\xca\x9a\x3b\0\0\0\0";
+
+// 1 by 31, the lot eligible for call 30 alone, at cost 5
+pub const WIDE_BOOK: [u8; 15] = *b"CLB\x01\0\x01\x1f\0\0\0\x40\x05\0\0\0";
+
+// and 1 by 32
+pub const WIDEST_BOOK: [u8; 15] = *b"CLB\x01\0\x01\x20\0\0\0\x40\x05\0\0\0";
+
+// of one lot and up to 32 calls: the lot's amount, call 30 wants 2, and the others nothing; it ends after the call amounts
+pub fn wide_amounts(calls: u8, lot: u8) -> [u8; 139] {
+    let mut file = [0u8; 139];
+    file[0] = b'C';
+    file[1] = b'L';
+    file[2] = b'A';
+    file[3] = 1;
+    file[5] = 1;
+    file[6] = calls;
+    file[7] = lot;
+    file[7 + 4 * 31] = 2;
+    file
+}

@@ -1,15 +1,16 @@
-// Document 01's known examples, F1 to F14, run through the entry points, and a few more inputs to a run that tempt to another answer.
+// Document 01's known examples, F1 to F14, run through the entry points, a few more inputs to a run that tempt to another answer, and runs
+// with an idle call (document 02, request 2).
 mod given;
 mod show;
 
 use specification::Found;
 
-// The first `length` bytes of an order buffer, or all where it has fewer: the file that the finder wrote.
-fn file(order: &[u8], length: usize) -> &[u8] {
-    if length < order.len() {
-        return &order[0..length];
+// The first `length` bytes of a buffer, or all where it has fewer: the file that stands in it.
+fn file(buffer: &[u8], length: usize) -> &[u8] {
+    if length < buffer.len() {
+        return &buffer[0..length];
     }
-    order
+    buffer
 }
 
 fn check(label: &[u8], book: &[u8], order: &[u8]) {
@@ -26,6 +27,12 @@ fn find_and_run(label: &[u8], book: &[u8], amounts: &[u8]) {
     let mut flow = [7u32; 5];
     let answer = placer::find_and_run(book, amounts, &mut flow);
     show::placed(label, b"find_and_run", answer, &flow);
+}
+
+fn find_and_run_idle(label: &[u8], book: &[u8], amounts: &[u8]) {
+    let mut flow = [7u32; 7];
+    let answer = placer::find_and_run_idle(book, amounts, &mut flow);
+    show::placed(label, b"find_and_run_idle", answer, &flow);
 }
 
 // Finds an order, runs the file that was written, and finds and runs in one call.
@@ -138,6 +145,63 @@ fn left_and_lacking() {
     place(b"Nothing asked", &given::F6_BOOK, &given::IDLE_AMOUNTS);
 }
 
+// The plain run leaves the cheap lot idle; with an idle call the dear one stays. Equal totals and no amounts at all are Full.
+fn stock_to_spare() {
+    find_and_run(b"Spare", &given::SPARE_BOOK, &given::SPARE_AMOUNTS);
+    find_and_run_idle(b"Spare", &given::SPARE_BOOK, &given::SPARE_AMOUNTS);
+    find_and_run_idle(b"F1", &given::F1_BOOK, &given::F1_AMOUNTS);
+    find_and_run_idle(b"No amounts", &given::SPARE_BOOK, &given::NO_AMOUNTS);
+}
+
+// A lot with no eligible call may stay idle; what it cannot give still lacks. More than 32 bits of units stay idle.
+fn bare_lots() {
+    find_and_run_idle(b"F8", &given::F6_BOOK, &given::F8_AMOUNTS);
+    find_and_run_idle(b"F10", &given::F10_BOOK, &given::F10_AMOUNTS);
+    find_and_run_idle(b"Lone lot", &given::LONE_BOOK, &given::LONE_AMOUNTS);
+    find_and_run_idle(b"Five lots", &given::FIVE_BOOK, &given::FIVE_AMOUNTS);
+}
+
+// The book has an order, and the enlarged one has none. 17 is about the book's own m and comes before 13, 18 before 17, and 16 before 18.
+fn idle_refused() {
+    let mut flow = [7u32; 6];
+    let answer = placer::find_and_run(&given::CORNERS_BOOK, &given::CORNERS_AMOUNTS, &mut flow);
+    show::placed(b"Corners", b"find_and_run", answer, &flow);
+    find_and_run_idle(b"Corners", &given::CORNERS_BOOK, &given::CORNERS_AMOUNTS);
+    let mut short = [7u32; 5];
+    let answer = placer::find_and_run_idle(
+        &given::CORNERS_BOOK,
+        &given::CORNERS_AMOUNTS,
+        &mut short,
+    );
+    show::placed(b"Corners, 5 entries", b"find_and_run_idle", answer, &short);
+    let answer = placer::find_and_run_idle(&given::CORNERS_BOOK, &given::CORNERS_LESS, &mut short);
+    show::placed(
+        b"Corners, calls above lots",
+        b"find_and_run_idle",
+        answer,
+        &short,
+    );
+    find_and_run_idle(b"Call above the limit", &given::F12_BOOK, &given::HIGH_CALL);
+}
+
+// With 31 calls the idle one is the last that fits; with 32 there is none, which is told after 18 and before 17.
+fn many_calls() {
+    let amounts = given::wide_amounts(31, 3);
+    let mut flow = [7u32; 32];
+    let answer = placer::find_and_run_idle(&given::WIDE_BOOK, file(&amounts, 135), &mut flow);
+    show::placed(b"31 calls", b"find_and_run_idle", answer, &flow);
+    find_and_run_idle(
+        b"32 calls",
+        &given::WIDEST_BOOK,
+        &given::wide_amounts(32, 3),
+    );
+    find_and_run_idle(
+        b"32 calls, above the lot",
+        &given::WIDEST_BOOK,
+        &given::wide_amounts(32, 1),
+    );
+}
+
 fn main() {
     f1();
     f2_to_f4();
@@ -150,4 +214,8 @@ fn main() {
     orders_refused();
     few_pairs();
     left_and_lacking();
+    stock_to_spare();
+    bare_lots();
+    idle_refused();
+    many_calls();
 }

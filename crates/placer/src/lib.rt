@@ -1,15 +1,19 @@
-// What a program calls: finding an order and running it in one call (document 01, "Finding an order"), and the text that is printed of
-// that ("The printing program").
+// What a program calls: finding an order and running it in one call (document 01, "Finding an order"), also with an idle call (document 02,
+// request 2), and the text that is printed of a run ("The printing program").
 mod text;
 
+use run::inner::Remaining;
 use slacks::Search;
 use specification::Counts;
 use specification::Placed;
 use specification::Refusal;
 ghost use mathlib.Core.Path.{_≡_};
 ghost use Rattle.specification.specs.Reply.{statedPlaced};
+ghost use Rattle.specification.specs.Book.{problemOf};
 ghost use Rattle.specification.specs.Find.{findAndRun, findAndRunFlow};
+ghost use Rattle.specification.specs.Idle.{findAndRunIdle, findAndRunIdleFlow};
 ghost use Rattle.specification.specs.Text.{printed};
+ghost use Rattle.placer.specs.Placing.{Supplied, Places};
 ghost use Rattle.placer.specs.Rendering.{Prints};
 
 // The bytes of the longest text: 50 for its first line, and 17 for the line of each of 1,024 pairs.
@@ -21,8 +25,33 @@ pub struct Printed {
     pub length: usize,
 }
 
+// Finds an order, of the enlarged book where there is an idle call, and runs it: 17, then 13, then the run. The order stands in an array of
+// its own; that it passes the check is a theorem, so it is not checked again.
+fn find_then_run(
+    book: &[u8],
+    n: usize,
+    m: usize,
+    idle: bool,
+    remaining: Remaining,
+    flow: &mut [u32],
+) -> Placed
+    requires { ⌜ Supplied (now book) n m idle remaining ⌝ }
+    ensures { λ r. ⌜ Places idle (problemOf (now (book .entry))) remaining (now (flow .entry)) r (now (flow .exit)) ⌝ }
+{
+    if flow.len() < n * m {
+        return Placed::Refused(Refusal::BufferTooShort);
+    }
+    let mut order = [0u8; files::ORDER_MOST];
+    let found = finder::inner::find_by(book, n, m, idle, &mut order);
+    let Search::Found(count) = found else {
+        return Placed::Refused(Refusal::NoOrder);
+    };
+    let length = 7 + 2 * count;
+    run::inner::run_by(&order[..length], count, n, m, remaining, book, flow)
+}
+
 // Finds an order of the book's eligible pairs and runs it on the amounts: units and cost, with the units of each pair in the flow, or the
-// refusal. The order stands in an array of its own; that it passes the check is a theorem, so it is not checked again.
+// refusal.
 pub fn find_and_run(book: &[u8], amounts: &[u8], flow: &mut [u32]) -> Placed
     ensures { λ r. ⌜ statedPlaced r ≡ findAndRun (now (book .entry)) (now (amounts .entry)) (now (flow .entry)) ⌝ }
     ensures { λ r. ⌜ now (flow .exit) ≡ findAndRunFlow (now (book .entry)) (now (amounts .entry)) (now (flow .entry)) ⌝ }
@@ -31,17 +60,33 @@ pub fn find_and_run(book: &[u8], amounts: &[u8], flow: &mut [u32]) -> Placed
     let Counts::Are(n, m) = counts else {
         return Placed::Refused(files::refusal_of(counts));
     };
-    if flow.len() < n * m {
-        return Placed::Refused(Refusal::BufferTooShort);
-    }
-    let mut order = [0u8; files::ORDER_MOST];
-    let found = finder::inner::find_by(book, n, m, &mut order);
-    let Search::Found(count) = found else {
-        return Placed::Refused(Refusal::NoOrder);
-    };
     let remaining = run::inner::remaining_of(amounts, n, m);
-    let length = 7 + 2 * count;
-    run::inner::run_by(&order[..length], count, n, m, remaining, book, flow)
+    find_then_run(book, n, m, false, remaining, flow)
+}
+
+// The same with an idle call, number m, which lacks what the lots have more than the calls want: the cheapest choice of the stock that stays
+// idle. What that call lacks may be above 32 bits, and is carried in 64.
+pub fn find_and_run_idle(book: &[u8], amounts: &[u8], flow: &mut [u32]) -> Placed
+    ensures { λ r. ⌜ statedPlaced r ≡ findAndRunIdle (now (book .entry)) (now (amounts .entry)) (now (flow .entry)) ⌝ }
+    ensures { λ r. ⌜ now (flow .exit) ≡ findAndRunIdleFlow (now (book .entry)) (now (amounts .entry)) (now (flow .entry)) ⌝ }
+{
+    let counts = amounts::read_amounts(book, amounts);
+    let Counts::Are(n, m) = counts else {
+        return Placed::Refused(files::refusal_of(counts));
+    };
+    let real = run::inner::remaining_of(amounts, n, m);
+    let lots = real.lots;
+    let calls = real.calls;
+    let stock = run::inner::total(lots, n);
+    let wanted = run::inner::total(calls, m);
+    if stock < wanted {
+        return Placed::Refused(Refusal::CallsExceedLots);
+    }
+    if m == 32 {
+        return Placed::Refused(Refusal::NoIdleCall);
+    }
+    let enlarged = real.with_idle(m, stock - wanted);
+    find_then_run(book, n, m, true, enlarged, flow)
 }
 
 // How many bytes of each file are read at most, 4,232 and 264: one more than the largest has, so that a longer one is refused. The largest

@@ -107,7 +107,7 @@ find-and-run-is-run book amounts flow S found = find-and-run-as book (orderFile 
     (λ readable. check-passes book (orderFile S) (found-passes book S readable found))
 
 -- 13: the amounts are read and the flow is long enough, and there is no order
-pub none-refused : (book amounts flow : List ℕ) (size : Size) → readAmounts book amounts ≡ gives size
+none-refused : (book amounts flow : List ℕ) (size : Size) → readAmounts book amounts ≡ gives size
     → size .lots * size .calls ≤ length flow → find (problemOf book) ≡ none
     → (refuses 13 [] ≡ findAndRun book amounts flow) × (flow ≡ findAndRunFlow book amounts flow)
 unfolding foundToRun findAndRun findAndRunFlow problemOf

@@ -1,0 +1,45 @@
+-- Finding and running past the refusals of the files: what is replied and written, by the problem that is searched and by the amounts.
+use mathlib.Core.Path.{_≡_}
+use mathlib.Core.Bool.{Bool, true}
+use mathlib.Core.List.{List, []}
+use Prim.Native.Nat.{ℕ, _<_}
+use lib.ListN.{getD}
+use Rattle.transport.specs.Problem.{Problem}
+use Rattle.transport.specs.Greedy.{Pair, start, greedy}
+use Rattle.transport.specs.Idle.{realPart}
+use Rattle.specification.specs.declared.Placed.{Placed}
+use Rattle.specification.specs.Reply.{Reply, gives, refuseIf, _>>=_, afterwards, Outcome, statedPlaced}
+use Rattle.specification.specs.Book.{readBook}
+use Rattle.specification.specs.Run.{outcome, flowOf, flowTooShort}
+use Rattle.specification.specs.Find.{orderOr13}
+use Rattle.finder.specs.Searched.{searched}
+use Rattle.run.specs.declared.inner.Remaining.{Remaining}
+use Rattle.run.specs.Run.{HoldsState}
+
+-- what is asked: the book is read with its n and m, there is room for an idle call, and the lots' amounts fit an entry of the flow
+pub record Supplied (book : List ℕ) (n m : ℕ) (idle : Bool) (r : Remaining) : Type 0 where
+  pub reads : readBook book ≡ gives (record { lots = n; calls = m })
+  pub room : idle ≡ true → m < 32
+  pub fits : (i : ℕ) → i < n → getD (r .lots) i 0 < 4294967296
+
+-- the order found for E, "then 17, and 13 last", the flow being laid out for P
+abbrev pub foundFor : Problem → Problem → List ℕ → Reply (List Pair)
+foundFor P E flow = do
+  _ ← refuseIf (flowTooShort P flow) 17 []
+  orderOr13 E
+
+-- the reply, of the calls of P
+abbrev pub placedBy : Problem → Problem → (ℕ → ℕ) → (ℕ → ℕ) → List ℕ → Reply Outcome
+placedBy P E a b flow = do
+  S ← foundFor P E flow
+  gives (outcome P (realPart P (greedy S a b)))
+
+-- and the flow buffer afterwards
+abbrev pub flowBy : Problem → Problem → (ℕ → ℕ) → (ℕ → ℕ) → List ℕ → List ℕ
+flowBy P E a b flow = afterwards (foundFor P E flow) flow (λ S. flowOf P (realPart P (greedy S a b) .given) flow)
+
+-- both, for all amounts that the arrays hold; E has the idle call or not
+abbrev pub Places : Bool → Problem → Remaining → List ℕ → Placed → List ℕ → Type 0
+Places idle P r flow reply flow′ =
+    (a b : ℕ → ℕ) → HoldsState (P .lots) (searched idle P .calls) r (start a b)
+    → (statedPlaced reply ≡ placedBy P (searched idle P) a b flow) × (flow′ ≡ flowBy P (searched idle P) a b flow)
