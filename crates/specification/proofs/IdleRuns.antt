@@ -10,14 +10,14 @@ use native.Mathlib.Omega.{arith}
 use lib.Dec.{ltb, eqb, ltb→lt, nltb→le, eqb→eq, T-not}
 use lib.ListN.{length}
 use borrow.Author.Tests.{lt-ltb, le-ltb}
-use Rattle.transport.specs.Problem.{Problem}
+use Rattle.transport.specs.Problem.{Problem, sum}
 use Rattle.transport.specs.Greedy.{Pair}
 use Rattle.transport.specs.Order.{OrderOf, Monge}
 use Rattle.transport.specs.Finder.{find}
 use Rattle.transport.proofs.Greedy.Calls.{meets-calls-of-meets, totals-of-meets, meets-of-totals}
 use Rattle.transport.proofs.Greedy.Idle.{idle-kept}
 use Rattle.transport.proofs.Finder.Find.{find-is-order, find-is-monge}
-use Rattle.transport.proofs.Theorems.Idle.{idle-cheapest, idle-covers-iff, idle-spends-iff}
+use Rattle.transport.proofs.Theorems.Idle.{idle-cheapest, idle-most, idle-covers-iff, idle-spends-iff}
 use Rattle.specification.specs.declared.Refusal.the-variants as refusal
 use Rattle.specification.specs.Reply.{Reply, gives, refuses, Size, Outcome, full, covered}
 use Rattle.specification.specs.Book.{bookCalls, problemOf}
@@ -129,6 +129,11 @@ module _ (book amounts : List ℕ) (o : Outcome) (enough : callsTotal book amoun
       not-covered : o .verdict ≡ covered → o .verdict ≡ full → ⊥
       not-covered e f = let z : _≡_ {A = ℕ} 0 1 = cc in omega arith
 
+enough-stock : (book amounts : List ℕ) → callsTotal book amounts ≤ lotsTotal book amounts
+    → sum (problemOf book .calls) (callAmount book amounts) ≤ sum (problemOf book .lots) (lotAmount amounts)
+unfolding problemOf
+enough-stock book amounts h = h
+
 -- an accepted run, by the order found
 idle-run-by : (book amounts flow : List ℕ) (o : Outcome) (S : List Pair) → IdleGave book amounts flow S
     → foundToRunIdle book amounts flow ≡ gives S → o ≡ outcome (problemOf book) (greedyIdleOn book S amounts) → IdleRun book amounts flow o
@@ -141,10 +146,12 @@ idle-run-by book amounts flow o S gave it is =
     let verdicts : Verdicts book amounts o =
     rw is (verdicts-of book amounts _ (idle-spends-iff P order a b monge) (idle-covers-iff P order a b monge)) in
     record {
+      allowed = gave .allowed;
       order = S;
       found = gave .found;
       ran = rw (it, is) (ran-of P (idle-kept P order a b) flow (long-enough book amounts flow (gave .allowed)));
       least-cost = λ x m. rw is (idle-cheapest P order a b monge x m .2);
+      greatest-units = λ x h. rw is (idle-most P order a b monge (enough-stock book amounts (gave .allowed .not-18)) x h);
       verdicts = verdicts;
       full-iff = full-by-totals book amounts o (gave .allowed .not-18) verdicts;
       covered-iff = covered-by-totals book amounts o (gave .allowed .not-18) verdicts;

@@ -6,7 +6,7 @@ use mathlib.Core.List.{List, []}
 use mathlib.Core.Option.{some}
 use Prim.Native.Nat.{ℕ, _*_, _≤_, _<_}
 use lib.ListN.{length}
-use Rattle.transport.specs.Problem.{totalCost, MeetsCalls}
+use Rattle.transport.specs.Problem.{units, totalCost, Allocation, MeetsCalls}
 use Rattle.transport.specs.Greedy.{Pair}
 use Rattle.transport.specs.Finder.{find}
 use Rattle.specification.specs.Reply.{gives, refuses, Size, Outcome, full, covered}
@@ -29,6 +29,7 @@ pub record Allowed (book amounts flow : List ℕ) : Type 0 where
 
 -- Request 2: a run with an idle call, of the book's amounts, that is accepted
 pub record IdleRun (book amounts flow : List ℕ) (o : Outcome) : Type 0 where
+  pub allowed : Allowed book amounts flow
   -- "An order is found for the enlarged book"
   pub order : List Pair
   pub found : find (enlarged book) ≡ some order
@@ -39,6 +40,9 @@ pub record IdleRun (book amounts flow : List ℕ) (o : Outcome) : Type 0 where
   -- "no allocation that meets every real call costs less"
   pub least-cost : (x : ℕ → ℕ → ℕ) → MeetsCalls (problemOf book) (lotAmount amounts) (callAmount book amounts) x
       → o .cost ≤ totalCost (problemOf book) x
+  -- where no allocation meets them all, still "the unit count greatest" (demand 3)
+  pub greatest-units : (x : ℕ → ℕ → ℕ) → Allocation (problemOf book) (lotAmount amounts) (callAmount book amounts) x
+      → units (problemOf book) x ≤ o .units
   -- Full exactly when some allocation meets everything, and "Covered or Full exactly when some allocation meets every call, whatever the
   -- totals" (request 1)
   pub verdicts : Verdicts book amounts o

@@ -1,29 +1,34 @@
 -- The run with an idle call. An allocation that meets every call, with what each lot has left put into the idle call, meets everything in
 -- the enlarged problem, and one that meets everything there meets every call once the idle call is dropped. The idle call costs nothing, so
--- GREEDY, which is cheapest there, is cheapest among the allocations that meet every call.
+-- GREEDY, which is cheapest there, is cheapest among the allocations that meet every call. It also has the most units there, and so of the
+-- real calls, since every allocation leaves enough for the idle call.
 use mathlib.Core.Path.{_≡_, refl, sym, _∙_}
-use mathlib.Core.Logic.{_⊎_, inl, inr}
+use mathlib.Core.Logic.{_⊎_, inl, inr, ⊎-elim}
 use mathlib.Core.Bool.{cond}
 use mathlib.Core.List.{List, []}
 use Prim.Native.Nat.{ℕ, _+_, _*_, _-_, _≤_, _<_}
 use native.Mathlib.Nat.{mul-zero}
 use native.Mathlib.Omega.{arith}
 use lib.Dec.{T, eqb, eqb→eq, eqb-refl, ltb, ltb→lt, lt→ltb}
-use Rattle.transport.specs.Problem.{sum, Problem, Eligible, lotSum, totalCost, Meets, MeetsCalls}
+use Rattle.transport.specs.Problem.{sum, Problem, Eligible, lotSum, callSum, units, totalCost, Allocation, Meets, MeetsCalls}
 use Rattle.transport.specs.Greedy.{Pair, put, State, greedy}
 use Rattle.transport.specs.Order.{times, OrderOf, Monge}
 use Rattle.transport.specs.Idle.{withIdle, idleAmount, idleAmounts, withoutIdle, realPart, greedyIdle}
-use Rattle.transport.proofs.Laws.Tests.{or-says, or-of-left, or-of-right, counted-of, counted-none}
-use Rattle.transport.proofs.Laws.Sums.{sum-cong, sum-both, put-same, put-below, put-is}
+use Rattle.transport.proofs.Laws.Tests.{below-suc, or-says, or-of-left, or-of-right, counted-of, counted-none}
+use Rattle.transport.proofs.Laws.Sums.{sum-mono, sum-cong, sum-add, sum-both, sum-swap, put-same, put-below, put-is, part-of}
 use Rattle.transport.proofs.Laws.Units.{lotSum-same, callSum-same, totalCost-same}
 use Rattle.transport.proofs.Orders.Lists.{lists-of-order}
-use Rattle.transport.proofs.Greedy.Given.{Kept, Spent, kept-of-meets, kept-meets-calls, greedy-kept, greedy-meets}
-use Rattle.transport.proofs.Greedy.Optimal.{greedy-least-cost}
+use Rattle.transport.proofs.Greedy.Given.{Kept, Spent, kept-of-meets, kept-meets-calls, greedy-kept, greedy-allocation, greedy-meets}
+use Rattle.transport.proofs.Greedy.Optimal.{greedy-most-units, greedy-least-cost}
 use Rattle.transport.proofs.Greedy.Calls.{units-of-meets-calls}
+
+-- x, with f of each lot in the idle call
+abbrev withUnits : Problem → (ℕ → ℕ → ℕ) → (ℕ → ℕ) → ℕ → ℕ → ℕ
+withUnits P x f i = put (x i) (P .calls) (cond (ltb i (P .lots)) (f i) 0)
 
 -- x, with what each lot has left in the idle call
 abbrev pub withLeft : Problem → (ℕ → ℕ) → (ℕ → ℕ → ℕ) → ℕ → ℕ → ℕ
-withLeft P a x i = put (x i) (P .calls) (cond (ltb i (P .lots)) (a i - lotSum P x i) 0)
+withLeft P a x = withUnits P x (λ i. a i - lotSum P x i)
 
 module _ (P : Problem) where
   -- the pairs of the enlarged problem
@@ -55,6 +60,27 @@ module _ (P : Problem) where
             (λ j h. rw (put-below (P .cost i) (P .calls) 0 j h)),
       ))
 
+  -- units in the idle call: the sums of the real calls stay, and each lot has its units more
+  module _ (x : ℕ → ℕ → ℕ) (f : ℕ → ℕ) where
+    real-stay : (i j : ℕ) → j < P .calls → withUnits P x f i j ≡ x i j
+    real-stay i = put-below (x i) (P .calls) _
+
+    of-lot : (i : ℕ) → i < P .lots → withUnits P x f i (P .calls) ≡ f i
+    of-lot i h = put-same (x i) (P .calls) _ ∙ counted-of (ltb i (P .lots)) (f i) (lt→ltb i (P .lots) h)
+
+    units-only : ((i j : ℕ) → (Eligible P i j → ⊥) → x i j ≡ 0)
+        → (i j : ℕ) → (Eligible (withIdle P) i j → ⊥) → withUnits P x f i j ≡ 0
+    units-only only i j n = put-is (x i) (P .calls) _ j 0
+        (λ e. counted-none (ltb i (P .lots)) _ (λ t. absurd (n (rw e (idle-pair i (ltb→lt i (P .lots) t))))))
+        (λ ne. only i j (λ e. n (real-pair i j e)))
+
+    lot-with : (i : ℕ) → i < P .lots → lotSum (withIdle P) (withUnits P x f) i ≡ lotSum P x i + f i
+    unfolding sum
+    lot-with i h = omega (arith, lotSum-same P (withUnits P x f) x real-stay i, of-lot i h)
+
+    idle-with : callSum P (withUnits P x f) (P .calls) ≡ sum (P .lots) f
+    idle-with = sum-cong (P .lots) _ f of-lot
+
   module _ (a b : ℕ → ℕ) where
     -- a run of the enlarged problem, seen from the problem itself
     kept-real : {S : List Pair} {s : State} → Kept (withIdle P) a (idleAmounts P a b) S s → Kept P a b [] (realPart P s)
@@ -73,6 +99,10 @@ module _ (P : Problem) where
       );
     }
 
+    -- what an allocation leaves of the lots, in all
+    left-total : (x : ℕ → ℕ → ℕ) → Allocation P a b x → sum (P .lots) (λ i. a i - lotSum P x i) + units P x ≡ sum (P .lots) a
+    left-total x h = sum-both (P .lots) _ (lotSum P x) a (λ i l. omega (arith, h .lot-within i l))
+
     pub drop-idle : {z : ℕ → ℕ → ℕ} → Meets (withIdle P) a (idleAmounts P a b) z
         → MeetsCalls P a b (withoutIdle P z) × (totalCost P (withoutIdle P z) ≡ totalCost (withIdle P) z)
     drop-idle {z} m = (
@@ -82,29 +112,45 @@ module _ (P : Problem) where
 
     pub add-idle : {x : ℕ → ℕ → ℕ} → MeetsCalls P a b x
         → Meets (withIdle P) a (idleAmounts P a b) (withLeft P a x) × (totalCost (withIdle P) (withLeft P a x) ≡ totalCost P x)
-    unfolding sum
     add-idle {x} m = (
       record {
-        eligible-only = λ i j n. put-is (x i) (P .calls) _ j 0
-            (λ e. counted-none (ltb i (P .lots)) _ (λ t. absurd (n (rw e (idle-pair i (ltb→lt i (P .lots) t))))))
-            (λ ne. m .allocation .eligible-only i j (λ e. n (real-pair i j e)));
-        lot-met = λ i h. omega (arith, whole i h, lotSum-same P (withLeft P a x) x real i);
+        eligible-only = units-only x left (m .allocation .eligible-only);
+        lot-met = λ i h. omega (arith, lot-with x left i h, m .allocation .lot-within i h);
         call-met = λ j h. sym (put-is b (P .calls) _ j _
-            (λ e. rw e (omega (arith, sum-both (P .lots) _ _ a whole, units-of-meets-calls m)))
-            (λ ne. let h′ : j < P .calls = omega arith in omega (arith, m .calls-met j h′, callSum-same P (withLeft P a x) x real j h′)));
+            (λ e. rw e (omega (arith, idle-with x left, left-total x (m .allocation), units-of-meets-calls m)))
+            (λ ne. let h′ : j < P .calls = omega arith in omega (arith, m .calls-met j h′, callSum-same P _ x (real-stay x left) j h′)));
       },
-      cost-idle (withLeft P a x) ∙ totalCost-same P (withLeft P a x) x real,
+      cost-idle (withLeft P a x) ∙ totalCost-same P (withLeft P a x) x (real-stay x left),
     )
       where
-        real : (i j : ℕ) → j < P .calls → withLeft P a x i j ≡ x i j
-        real i = put-below (x i) (P .calls) _
+        left : ℕ → ℕ
+        left i = a i - lotSum P x i
 
-        whole : (i : ℕ) → i < P .lots → withLeft P a x i (P .calls) + lotSum P x i ≡ a i
-        whole i h = omega (
+    -- an allocation leaves enough for the idle call: with its amount taken from what is left, it is one of the enlarged problem
+    fill-idle : sum (P .calls) b ≤ sum (P .lots) a → {x : ℕ → ℕ → ℕ} → Allocation P a b x
+        → (z : ℕ → ℕ → ℕ) × Allocation (withIdle P) a (idleAmounts P a b) z × (units (withIdle P) z ≡ units P x + idleAmount P a b)
+    fill-idle enough {x} h =
+        let placed : units P x ≤ sum (P .calls) b = omega (
           arith,
-          put-same (x i) (P .calls) (cond (ltb i (P .lots)) (a i - lotSum P x i) 0),
-          counted-of (ltb i (P .lots)) (a i - lotSum P x i) (lt→ltb i (P .lots) h),
-          m .allocation .lot-within i h,
+          sum-swap (P .lots) (P .calls) x,
+          sum-mono (P .calls) (callSum P x) b (h .call-within),
+        ) in
+        let (f, below, is) = part-of (P .lots) (λ i. a i - lotSum P x i) (idleAmount P a b) (omega (arith, left-total x h)) in (
+          withUnits P x f,
+          record {
+            eligible-only = units-only x f (h .eligible-only);
+            lot-within = λ i l. omega (arith, lot-with x f i l, below i l, h .lot-within i l);
+            call-within = λ j l. ⊎-elim
+                (λ (e : j ≡ P .calls). rw e (omega (arith, idle-with x f, put-same b (P .calls) (idleAmount P a b))))
+                (λ own. omega (
+                  arith,
+                  callSum-same P _ x (real-stay x f) j own,
+                  put-below b (P .calls) (idleAmount P a b) j own,
+                  h .call-within j own,
+                ))
+                (below-suc l);
+          },
+          omega (arith, sum-both (P .lots) (lotSum P x) f _ (λ i l. sym (lot-with x f i l))),
         )
 
 -- GREEDY by an order of the enlarged problem
@@ -123,3 +169,21 @@ module _ (P : Problem) {S : List Pair} (order : OrderOf (withIdle P) S) (a b : �
       let (met, least) = greedy-least-cost order monge a (idleAmounts P a b) rival in
       let (dropped, dropped-cost) = drop-idle P a b met in
       (greedy-meets (lists-of-order order) a (idleAmounts P a b) .0 met, dropped, omega (arith, least, dropped-cost, rival-cost))
+
+  -- whether or not every call can be met, no allocation has more units of the real calls: GREEDY has the most with the idle call's, and
+  -- no more than its amount of these
+  pub idle-most-units : Monge (withIdle P) S → sum (P .calls) b ≤ sum (P .lots) a → {x : ℕ → ℕ → ℕ} → Allocation P a b x
+      → units P x ≤ units P (greedyIdle P S a b .given)
+  unfolding sum
+  idle-most-units monge enough {x} h =
+      let given : ℕ → ℕ → ℕ = greedy S a (idleAmounts P a b) .given in
+      let (z, rival, rival-units) = fill-idle P a b enough h in
+      omega (
+        arith,
+        rival-units,
+        greedy-most-units order monge a (idleAmounts P a b) rival,
+        sum-add (P .lots) (lotSum P given) (λ i. given i (P .calls)),
+        greedy-allocation (lists-of-order order) a (idleAmounts P a b) .call-within (P .calls) (omega arith),
+        put-same b (P .calls) (idleAmount P a b),
+        sum-cong (P .lots) _ _ (λ i l. lotSum-same P (withoutIdle P given) given (real-units P given) i),
+      )

@@ -3,13 +3,13 @@ use mathlib.Core.Path.{_≡_}
 use mathlib.Core.Logic.{_↔_}
 use mathlib.Core.List.{List}
 use Prim.Native.Nat.{ℕ, _+_, _≤_, _<_}
-use Rattle.transport.specs.Problem.{Problem, lotSum, callSum, totalCost, Allocation, Meets, MeetsCalls}
+use Rattle.transport.specs.Problem.{sum, Problem, lotSum, callSum, units, totalCost, Allocation, Meets, MeetsCalls}
 use Rattle.transport.specs.Greedy.{Pair, greedy}
 use Rattle.transport.specs.Order.{OrderOf, Monge}
 use Rattle.transport.specs.Idle.{withIdle, idleAmounts, withoutIdle, greedyIdle}
 use Rattle.transport.proofs.Greedy.Given.{Spent, NoneLacks, kept-allocation, kept-meets, kept-meets-calls}
 use Rattle.transport.proofs.Greedy.Calls.{meets-calls-of-meets, totals-of-meets, meets-of-totals}
-use Rattle.transport.proofs.Greedy.Idle.{withLeft, add-idle, drop-idle, idle-kept, idle-least}
+use Rattle.transport.proofs.Greedy.Idle.{withLeft, add-idle, drop-idle, idle-kept, idle-least, idle-most-units}
 
 module _ (P : Problem) (a b : ℕ → ℕ) where
   -- (l) An allocation that meets every call meets everything in the enlarged problem, with what each lot has left in the idle call, at the
@@ -55,3 +55,8 @@ module _ (P : Problem) {S : List Pair} (order : OrderOf (withIdle P) S) (a b : �
           λ h. (greedyIdle P S a b .given, met h),
           λ (x, m). spent (meets-of-totals (totals-of-meets m) (idle-cheapest x (meets-calls-of-meets m) .1)),
         )
+
+    -- (l) Whether or not every call can be met, no allocation has more units, where the lots' total is no lower than the calls'. Greedy/Idle
+    pub idle-most : sum (P .calls) b ≤ sum (P .lots) a → (x : ℕ → ℕ → ℕ) → Allocation P a b x
+        → units P x ≤ units P (greedyIdle P S a b .given)
+    idle-most enough x h = idle-most-units P order a b monge enough h
