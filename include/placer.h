@@ -7,7 +7,7 @@
  * unit costs on it. An order lists the eligible pairs; running it gives each pair in turn the smaller of what its lot has left and what
  * its call still lacks. By an order that passes the check a run meets every call whenever some allocation does; where some allocation
  * meets everything, so does the run, and none that does costs less. Both hold whatever the amounts: so an order is agreed once and used
- * daily.
+ * daily. With stock to spare it matters for the cost which units stay in the box: placer_find_and_run_idle makes the cheapest choice.
  *
  *     uint32_t flow[PLACER_FLOW_MAX];
  *     placer_reply r = placer_find_and_run(book, book_len, amounts, amounts_len, flow, PLACER_FLOW_MAX);
@@ -23,15 +23,15 @@
  *   order    "CLO" 1 0, a 16-bit count of pairs; for each pair a byte for its lot and one for its call. Lots and calls count from 0.
  *
  * What holds for every call
- *   - Any bytes and any lengths may be handed over. The call returns; it accepts, or refuses by a number from 1 to 17.
+ *   - Any bytes and any lengths may be handed over. The call returns; it accepts, or refuses by a number from 1 to 19.
  *   - What is passed by `const` pointer is read and never written. A buffer is written only where the call accepts; a refusal leaves it
  *     as it was. Nothing outside the stated lengths is read or written, and no pointer is kept.
  *   - A pointer may be any non-null pointer where its length is 0. A buffer must not overlap another argument.
  *   - No heap, no state, no input or output, no signal, no locale: calls on separate buffers may run at once in any number of threads.
  *   - Stack: at most PLACER_STACK bytes.
  *   - Several refusals can apply; the one reported is the first in this sequence: the book's (1, 2, 3, 4; then lot by lot 6, 5, 6, 7;
- *     then 8), the order's (1, 2, 3, 6, 8; at each pair 9, 10; then 14; then 11 or 12), the amounts' (1, 2, 3, 15, 6, 8, 16), then 17,
- *     and 13 last.
+ *     then 8), the order's (1, 2, 3, 6, 8; at each pair 9, 10; then 14; then 11 or 12), the amounts' (1, 2, 3, 15, 6, 8, 16), 18, 19,
+ *     then 17, and 13 last. 18 and 19 come from placer_find_and_run_idle alone.
  *
  * Proved: every reply and every buffer, for all inputs, by the contracts of crates/placer_c; that the order found is good, and that one is
  * found whenever a good one exists. Trusted: the Rattle checker and compiler, this header, the C compiler and linker. */
@@ -76,19 +76,21 @@ enum placer_number {
     PLACER_PAIR_MET_BEFORE = 10,    /* a pair stands twice in the order [its second place] */
     PLACER_CROSS_NOT_ELIGIBLE = 11, /* (i, j) precedes (i, l) and (k, j), and (k, l) is not eligible [i, j, k, l] */
     PLACER_CROSS_SUM_TOO_HIGH = 12, /* likewise, and cost(i, j) + cost(k, l) > cost(i, l) + cost(k, j) [i, j, k, l] */
-    PLACER_NO_ORDER = 13,           /* no order of this book passes the check */
+    PLACER_NO_ORDER = 13,           /* no order of this book (with an idle call: of the enlarged book) passes the check */
     PLACER_PAIR_MISSING = 14,       /* an eligible pair is missing from the order */
     PLACER_COUNTS_DIFFER = 15,      /* the amounts' n or m differ from the book's */
     PLACER_AMOUNT_TOO_HIGH = 16,    /* an amount is above 1,000,000,000 */
-    PLACER_BUFFER_TOO_SHORT = 17    /* the buffer lent is too short */
+    PLACER_BUFFER_TOO_SHORT = 17,   /* the buffer lent is too short */
+    PLACER_CALLS_EXCEED_LOTS = 18,  /* with an idle call: the calls' total exceeds the lots' total */
+    PLACER_NO_IDLE_CALL = 19        /* with an idle call: the book already has 32 calls */
 };
 
-/* The verdict of a run. Least cost is promised for Full alone; whatever the verdict, no allocation places more units. */
+/* The verdict of a run. Least cost is promised for Full, and by placer_find_and_run_idle for Covered as well. */
 enum placer_verdict {
     PLACER_NO_RUN = 0, /* the call refused, or is not a run */
     PLACER_FULL = 1,   /* nothing is left in any lot or call; no allocation that meets everything costs less */
     PLACER_SHORT = 2,  /* a call lacks units; no allocation meets every call */
-    PLACER_COVERED = 3 /* every call is met and some lot has units left; the cost need not be the least */
+    PLACER_COVERED = 3 /* every call is met and some lot has units left */
 };
 
 /* What a call answers. `number` is PLACER_ACCEPTED or a refusal's number. `verdict` is PLACER_FULL, PLACER_COVERED or PLACER_SHORT where
@@ -116,6 +118,19 @@ typedef struct {
  *   refused          the book's numbers, the amounts', 17, 13 */
 placer_reply placer_find_and_run(const uint8_t *book, size_t book_len, const uint8_t *amounts, size_t amounts_len, uint32_t *flow,
                                  size_t flow_len);
+
+/* placer_find_and_run_idle: find and run with an idle call, which takes what stays in the box: with stock to spare, the cheapest choice of
+ * what to leave. The book is enlarged by this call, the last: every lot is eligible for it at cost 0, and its amount is the lots' total
+ * less the calls' total. An order is found for the enlarged book. With costs 3 5 / 1 2, lots of 3 and 4 units and calls for 3 and 2,
+ * 2 units of lot 0 stay idle and the calls cost 9 (flow 1 0 / 2 2); by placer_find_and_run they cost 13 (flow 3 0 / 0 2).
+ *   book, amounts    read
+ *   flow, flow_len   as for placer_find_and_run, by the book's own m: the idle call's units are not written, they count as left
+ *   accepted         values: units, cost, of the book's own calls. Covered or Full exactly when some allocation meets every call, and
+ *                    then none that does costs less: Full where the totals are equal, Covered where they differ.
+ *   refused          the book's numbers, the amounts', 18, 19, 17, 13, which is about the enlarged book: it may have no order where the
+ *                    book has one */
+placer_reply placer_find_and_run_idle(const uint8_t *book, size_t book_len, const uint8_t *amounts, size_t amounts_len, uint32_t *flow,
+                                      size_t flow_len);
 
 /* placer_find_order: find an order, to be agreed, stored and run later.
  *   book               read
@@ -182,11 +197,13 @@ static inline const char *placer_sentence(uint32_t number)
         "a pair stands twice in the order",
         "the order is not good: the opposite pair of two lots and two calls is not eligible",
         "the order is not good: two lots and two calls cost less the other way round",
-        "no order exists for this book",
+        "no order exists for this book (with an idle call: for the enlarged book)",
         "an eligible pair is missing from the order",
         "the amounts' counts differ from the book's",
         "an amount is above 1,000,000,000",
-        "the buffer is too short"};
+        "the buffer is too short",
+        "the calls' total exceeds the lots' total",
+        "the book already has 32 calls, and the idle call would be one more"};
     return number < sizeof sentences / sizeof sentences[0] ? sentences[number] : "not a number of this library";
 }
 
