@@ -3,7 +3,7 @@
 //! A *book* says for each lot and call whether the pair is eligible and what a unit costs on it. An *order* lists the eligible pairs;
 //! running it gives each pair in turn the smaller of what its lot has left and what its call still lacks. By an order that passes the check
 //! a run meets every call whenever some allocation does; where some allocation meets everything, so does the run, and none that does costs
-//! less. Both hold whatever the *amounts*.
+//! less. Both hold whatever the *amounts*. With stock to spare [`find_and_run_idle`] makes the cheapest choice of what stays in the box.
 //!
 //! The three files are byte slices, laid out as `include/placer.h` says. Every function takes any bytes: it accepts, or refuses by the
 //! first [`Refusal`] in the published sequence. A buffer is written only where the call accepts. Nothing is allocated or kept, nothing
@@ -60,7 +60,8 @@ pub struct Size {
     pub calls: usize,
 }
 
-/// Whether a run met everything, or every call. Whatever the verdict, no other allocation places more units.
+/// Whether a run met everything, or every call. By [`find_and_run`] and [`run_order`], whatever the verdict, no other allocation places
+/// more units.
 ///
 /// ```
 /// use placer::{find_and_run, Verdict};
@@ -80,7 +81,8 @@ pub struct Size {
 pub enum Verdict {
     /// Nothing is left in any lot or call. No other allocation that meets everything costs less.
     Full,
-    /// Every call is met, and some lot has units left. Another allocation that meets every call may cost less.
+    /// Every call is met, and some lot has units left. Another allocation that meets every call may cost less, but not where
+    /// [`find_and_run_idle`] says this.
     Covered,
     /// A call lacks units. No allocation meets every call; one that places as many units may cost less.
     Short,
@@ -225,6 +227,43 @@ pub fn find_and_run(book: &[u8], amounts: &[u8], flow: &mut [u32]) -> Result<Pla
     placed(unsafe { sys::placer_find_and_run(b, book.len(), a, amounts.len(), flow.as_mut_ptr(), flow.len()) })
 }
 
+/// Finds an order and runs it with an idle call, which takes what stays in the box: with stock to spare, the cheapest choice of what to
+/// leave. The idle call is the last of an enlarged book, every lot is eligible for it at cost 0, and its amount is the lots' total less the
+/// calls'. Reply and flow are of the book's own calls, as by [`find_and_run`]: units in the idle call count as left.
+///
+/// The verdict is `Covered` or `Full` exactly when some allocation meets every call, and then none that does costs less: `Full` where the
+/// totals are equal, `Covered` where they differ.
+///
+/// # Errors
+/// The refusals of [`read_amounts`], then 18, 19, 17 and 13; the flow is then unchanged. 13 is about the enlarged book, which may have no
+/// order where the book has one.
+///
+/// ```
+/// use placer::{find_and_run, find_and_run_idle, Refusal, Verdict};
+///
+/// // Two lots of 3 and 4 units, two calls for 3 and 2, costs 3 5 / 1 2: lot 0 is the dear one.
+/// let book = b"CLB\x01\0\x02\x02\x03\0\0\0\x03\0\0\0\x05\0\0\0\x03\0\0\0\x01\0\0\0\x02\0\0\0";
+/// let amounts = b"CLA\x01\0\x02\x02\x03\0\0\0\x04\0\0\0\x03\0\0\0\x02\0\0\0";
+/// let mut flow = [0; 4];
+/// let placed = find_and_run_idle(book, amounts, &mut flow)?;
+/// assert_eq!((placed.verdict, placed.units, placed.cost), (Verdict::Covered, 5, 9));
+/// assert_eq!(flow, [1, 0, 2, 2]); // 2 units of lot 0 stay in the box
+///
+/// // The plain run places as many units, and leaves 2 of lot 1.
+/// let placed = find_and_run(book, amounts, &mut flow)?;
+/// assert_eq!((placed.verdict, placed.units, placed.cost), (Verdict::Covered, 5, 13));
+/// assert_eq!(flow, [3, 0, 0, 2]);
+///
+/// // Where the calls want more than the lots have, nothing can stay idle.
+/// let more = b"CLA\x01\0\x02\x02\x03\0\0\0\x01\0\0\0\x03\0\0\0\x02\0\0\0";
+/// assert_eq!(find_and_run_idle(book, more, &mut flow), Err(Refusal::CallsExceedLots));
+/// # Ok::<(), placer::Refusal>(())
+/// ```
+pub fn find_and_run_idle(book: &[u8], amounts: &[u8], flow: &mut [u32]) -> Result<Placed, Refusal> {
+    let (b, a) = (book.as_ptr(), amounts.as_ptr());
+    placed(unsafe { sys::placer_find_and_run_idle(b, book.len(), a, amounts.len(), flow.as_mut_ptr(), flow.len()) })
+}
+
 #[cfg(test)]
 mod tests {
     use super::*;
@@ -235,5 +274,50 @@ mod tests {
         assert_eq!([1, 2, 3].map(told), [Verdict::Full, Verdict::Short, Verdict::Covered]);
         // a number that this crate does not know is never told as every call met
         assert_eq!([0, 4, u32::MAX].map(told), [Verdict::Short; 3]);
+    }
+
+    #[test]
+    fn refusals_by_number() {
+        for number in 1..=19 {
+            assert_eq!(Refusal::of(Reply { number, verdict: 0, values: [0; 4] }).number(), number);
+        }
+    }
+
+    /// The book of `calls` calls with one lot of `has` units that is eligible for none, its calls wanting `wants` in all.
+    fn bare(calls: u8, has: u8, wants: u8) -> ([u8; 11], [u8; AMOUNTS_MAX], usize) {
+        let mut book = *b"CLB\x01\0\x01\0\0\0\0\0";
+        let mut amounts = [0; AMOUNTS_MAX];
+        book[6] = calls;
+        amounts[..8].copy_from_slice(&[b'C', b'L', b'A', 1, 0, 1, calls, has]);
+        amounts[11] = wants;
+        (book, amounts, 7 + 4 * (1 + calls as usize))
+    }
+
+    #[test]
+    fn idle_refused_in_turn() {
+        let idle = |(book, amounts, len): ([u8; 11], [u8; AMOUNTS_MAX], usize), entries| {
+            let mut flow = [8; 32];
+            let told = find_and_run_idle(&book, &amounts[..len], &mut flow[..entries]);
+            assert!(told.is_ok() || flow == [8; 32]);
+            told.map(|placed| (placed.verdict, placed.units, placed.cost))
+        };
+        // 18 before 19, 19 before 17, 17 by the book's own calls
+        assert_eq!(idle(bare(32, 0, 1), 0), Err(Refusal::CallsExceedLots));
+        assert_eq!(idle(bare(32, 1, 1), 0), Err(Refusal::NoIdleCall));
+        assert_eq!(idle(bare(31, 1, 0), 30), Err(Refusal::BufferTooShort));
+        assert_eq!(idle(bare(31, 1, 0), 31), Ok((Verdict::Covered, 0, 0)));
+        assert_eq!(idle(bare(31, 1, 1), 31), Ok((Verdict::Short, 0, 0)));
+    }
+
+    #[test]
+    fn idle_has_no_order() {
+        // rows - 1 / 0 0 / 1 -: the book has an order, the enlarged book has none
+        let book = b"CLB\x01\0\x03\x02\x02\0\0\0\x01\0\0\0\x03\0\0\0\0\0\0\0\0\0\0\0\x01\0\0\0\x01\0\0\0";
+        let mut amounts = [0; 27];
+        amounts[..7].copy_from_slice(b"CLA\x01\0\x03\x02");
+        assert_eq!(find_and_run(book, &amounts, &mut [8; 6]).unwrap().verdict, Verdict::Full);
+        let mut flow = [8; 6];
+        assert_eq!(find_and_run_idle(book, &amounts, &mut flow), Err(Refusal::NoOrder));
+        assert_eq!(flow, [8; 6]);
     }
 }

@@ -31,7 +31,7 @@ pub enum Refusal {
     CrossNotEligible { i: usize, j: usize, k: usize, l: usize },
     /// 12: (i, j) precedes (i, l) and (k, j) in the order, and costs more together with (k, l) than those two.
     CrossSumTooHigh { i: usize, j: usize, k: usize, l: usize },
-    /// 13: no order exists for this book.
+    /// 13: no order exists for this book (with an idle call: for the enlarged book).
     NoOrder,
     /// 14: an eligible pair is missing from the order.
     PairMissing,
@@ -41,6 +41,10 @@ pub enum Refusal {
     AmountTooHigh,
     /// 17: the buffer is too short.
     BufferTooShort,
+    /// 18: with an idle call, the calls' total exceeds the lots' total.
+    CallsExceedLots,
+    /// 19: with an idle call, the book already has 32 calls.
+    NoIdleCall,
 }
 
 impl Refusal {
@@ -63,7 +67,9 @@ impl Refusal {
             14 => Refusal::PairMissing,
             15 => Refusal::CountsDiffer,
             16 => Refusal::AmountTooHigh,
-            _ => Refusal::BufferTooShort, // 17 is the only number left
+            17 => Refusal::BufferTooShort,
+            18 => Refusal::CallsExceedLots,
+            _ => Refusal::NoIdleCall, // 19 is the only number left
         }
     }
 
@@ -87,6 +93,8 @@ impl Refusal {
             Refusal::CountsDiffer => 15,
             Refusal::AmountTooHigh => 16,
             Refusal::BufferTooShort => 17,
+            Refusal::CallsExceedLots => 18,
+            Refusal::NoIdleCall => 19,
         }
     }
 }
@@ -110,11 +118,13 @@ impl fmt::Display for Refusal {
             Refusal::CrossSumTooHigh { i, j, k, l } => {
                 write!(f, "({i}, {j}) precedes ({i}, {l}) and ({k}, {j}), and costs more with ({k}, {l}) than those two")
             }
-            Refusal::NoOrder => write!(f, "no order exists for this book"),
+            Refusal::NoOrder => write!(f, "no order exists for this book (with an idle call: for the enlarged book)"),
             Refusal::PairMissing => write!(f, "an eligible pair is missing from the order"),
             Refusal::CountsDiffer => write!(f, "the amounts' counts differ from the book's"),
             Refusal::AmountTooHigh => write!(f, "an amount is above 1,000,000,000"),
             Refusal::BufferTooShort => write!(f, "the buffer is too short"),
+            Refusal::CallsExceedLots => write!(f, "the calls' total exceeds the lots' total"),
+            Refusal::NoIdleCall => write!(f, "the book already has 32 calls, and the idle call would be one more"),
         }
     }
 }
