@@ -1,6 +1,7 @@
 """The collateral placer: bond lots go to margin calls, as many units as can be placed, and at the least cost where everything can be met.
 
-Simplest call: `place(costs, lots, calls)`. The others work on the files of document 01, over any bytes-like object.
+Simplest call: `place(costs, lots, calls)`; with stock to spare, `idle=True` makes the cheapest choice of what stays in the box. The others
+work on the files of document 01, over any bytes-like object.
 
 Proved: the library behind every call, its replies and what it writes to each buffer.
 Trusted: this package, ctypes, the declaration of the C interface, the C compiler.
@@ -18,6 +19,7 @@ from .entry_points import (
     Verdict,
     check_order,
     find_and_run,
+    find_and_run_idle,
     find_order,
     lot_costs,
     pair_cost,
@@ -46,6 +48,7 @@ __all__ = [
     "book_costs",
     "check_order",
     "find_and_run",
+    "find_and_run_idle",
     "find_order",
     "lot_costs",
     "order_bytes",

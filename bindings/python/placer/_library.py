@@ -53,7 +53,15 @@ def library() -> ctypes.CDLL:
 
 
 # How many slices each call is lent.
-_FILES = {"read_book": 1, "read_amounts": 2, "check_order": 2, "run_order": 4, "find_order": 2, "find_and_run": 3}
+_FILES = {
+    "read_book": 1,
+    "read_amounts": 2,
+    "check_order": 2,
+    "run_order": 4,
+    "find_order": 2,
+    "find_and_run": 3,
+    "find_and_run_idle": 3,
+}
 
 
 def lend(data: BytesLike) -> Tuple[Any, int]:

@@ -12,10 +12,11 @@ from pathlib import Path
 from typing import Iterator, List, Optional, Sequence, TextIO
 
 from . import __version__
-from .entry_points import Placing, check_order, find_and_run, find_order, read_amounts, read_book, run_order
+from .entry_points import Placing, check_order, find_and_run, find_and_run_idle, find_order, read_amounts, read_book, run_order
 from .files import words
 from .lists import amounts_lists, book_costs, numbers, order_pairs
-from .tables import BadInput, Problem, contents, load, told
+from .refused import Cause, Refused
+from .tables import SOLVER, BadInput, Problem, contents, load, told
 
 DONE, SHORT, REFUSED = 0, 1, 2  # exit status
 
@@ -37,7 +38,8 @@ One of the files may be -, standard input. Lots and calls are at most 32 each.
 {_STATUS}"""
 
 _PROVED = """This command is a front end and not the proved part: the library that it calls is proved, and so is
-the program `place`, which reads the files of `placer encode` and prints the same placing."""
+the program `place`, which reads the files of `placer encode` and prints the placing that is found
+without --idle."""
 
 
 def _text(rows: Sequence[Sequence[object]]) -> str:
@@ -96,12 +98,28 @@ def _units(problem: Problem, placing: Placing) -> str:
     return out.getvalue()
 
 
+def _with_idle(files: Sequence[str], problem: Problem) -> Placing:
+    """Place with an idle call. A refusal says what to do instead: of the last file, which has the calls, or of the first, for the order."""
+    try:
+        return find_and_run_idle(problem.book, problem.amounts)
+    except Refused as refused:
+        path, cause, instead = files[-1], str(refused), f"place without --idle, or, for the least cost, {SOLVER}"
+        if refused.cause is Cause.CALLS_EXCEED_LOTS:
+            instead = "place without --idle"
+        elif refused.cause is Cause.NO_ORDER:
+            told(files[0], find_order, problem.book)  # which says so if the book alone has none either
+            path, cause = files[0], "refused 13: with an idle call no order is good for all amounts, though the book alone has one"
+        raise BadInput(path, None, f"{cause}; {instead}") from None
+
+
 def _place(options: argparse.Namespace) -> int:
     problem = load(options.files)
     if options.order:
         order = contents(options.order)
         told(options.order, check_order, problem.book, order)
         placing = run_order(problem.book, order, problem.amounts)
+    elif options.idle:
+        placing = _with_idle(options.files, problem)
     else:
         placing = told(options.files[0], find_and_run, problem.book, problem.amounts)
     if options.flow:
@@ -202,7 +220,9 @@ def _parser() -> argparse.ArgumentParser:
         return added
 
     place = command("place", _place, "place, and write lot,call,units as CSV")
-    place.add_argument("--order", metavar="FILE", help="place by this order file instead of finding one")
+    how = place.add_mutually_exclusive_group()
+    how.add_argument("--order", metavar="FILE", help="place by this order file instead of finding one")
+    how.add_argument("--idle", action="store_true", help="with stock to spare, make the cheapest choice of what stays in the lots")
     place.add_argument("--flow", metavar="FILE", help="write the flow too: the units of all pairs, 32-bit numbers, lot by lot")
     encode = command("encode", _encode, "write book.clb and amounts.cla")
     encode.add_argument("--order", action="store_true", help="find an order and write order.clo too")

@@ -29,7 +29,8 @@ class Verdict(enum.IntEnum):
     Attributes:
         FULL: nothing is left in any lot or call; the cost is the least of all allocations that meet everything.
         SHORT: a call lacks units; no allocation meets every call.
-        COVERED: every call is met and some lot has units left; the cost need not be the least.
+        COVERED: every call is met and some lot has units left; the cost is the least of all allocations that meet every call by
+            `find_and_run_idle`, and need not be by the other runs.
     """
 
     FULL = 1
@@ -49,7 +50,7 @@ class Placing:
 
     Attributes:
         verdict: whether everything, or every call, is met.
-        units: how many units were placed; no allocation has more.
+        units: how many units were placed.
         cost: the sum of units times cost, in hundredths of a cent.
         flow: the units of each pair: `flow[lot][call]`, 0 where not eligible.
     """
@@ -220,7 +221,7 @@ def run_order(book: BytesLike, order: BytesLike, amounts: BytesLike, flow: Optio
         flow: a buffer of 32-bit items to write the flow into as well, entry lot * calls + call; later ones keep their contents.
 
     Returns:
-        The placing. If its verdict is not FULL its cost need not be the least.
+        The placing; no allocation has more units. If its verdict is not FULL its cost need not be the least.
 
     Raises:
         Refused: the book's refusal; the order's; the amounts'; then 17.
@@ -249,19 +250,44 @@ def find_and_run(book: BytesLike, amounts: BytesLike, flow: Optional[Writable] =
     return _placing("find_and_run", flow, book, amounts)
 
 
-def place(costs: Costs, lots: Sequence[int], calls: Sequence[int]) -> Placing:
+def find_and_run_idle(book: BytesLike, amounts: BytesLike, flow: Optional[Writable] = None) -> Placing:
+    """Find an order and place the amounts by it, with an idle call that takes what stays in the box, at cost 0.
+
+    The idle call is the last call of an enlarged book: every lot is eligible for it, and its amount is the lots' total less the calls'.
+
+    Returns:
+        The placing of the book's own calls; `flow` as for `run_order`. It is SHORT only if no allocation meets every call. Else no
+        allocation that meets every call costs less, and it is FULL where the totals are equal, COVERED where they differ.
+
+    Raises:
+        Refused: the book's refusal; the amounts'; 18 if the calls ask for more than the lots have; 19 if the book has 32 calls; 17;
+            or 13 if the enlarged book has no order, which can be so where the book has one.
+
+    Examples:
+        >>> book, amounts = book_bytes([[3, 5], [1, 2]]), amounts_bytes([3, 4], [3, 2])
+        >>> find_and_run_idle(book, amounts)
+        Placing(verdict=Verdict.COVERED, units=5, cost=9, flow=((1, 0), (2, 2)))
+        >>> find_and_run(book, amounts)
+        Placing(verdict=Verdict.COVERED, units=5, cost=13, flow=((3, 0), (0, 2)))
+    """
+    return _placing("find_and_run_idle", flow, book, amounts)
+
+
+def place(costs: Costs, lots: Sequence[int], calls: Sequence[int], *, idle: bool = False) -> Placing:
     """Place lots to calls.
 
     Args:
         costs: for each lot in turn the cost of each call, whole hundredths of a cent per unit; None where not eligible.
         lots: what each lot has, in whole units.
         calls: what each call asks for.
+        idle: whether to make, with stock to spare, the cheapest choice of what stays in the box, as `find_and_run_idle` does.
 
     Returns:
         The placing.
 
     Raises:
-        Refused: a limit of document 01 is passed, the counts differ (15), or no order exists (13): use a flow solver then.
+        Refused: a limit of document 01 is passed, the counts differ (15), or no order exists (13): use a flow solver then. With `idle`
+            also 18 and 19, and 13 where the book alone may have an order.
         ValueError: the rows of costs differ in length, or a number does not fit its field.
         TypeError: a cost or an amount is no whole number.
 
@@ -272,5 +298,8 @@ def place(costs: Costs, lots: Sequence[int], calls: Sequence[int]) -> Placing:
         Placing(verdict=Verdict.COVERED, units=1, cost=0, flow=((1, 0), (0, 0)))
         >>> place([[0, 0], [0, None]], [0, 1], [0, 1])
         Placing(verdict=Verdict.SHORT, units=0, cost=0, flow=((0, 0), (0, 0)))
+        >>> place([[3, 5], [1, 2]], [3, 4], [3, 2], idle=True)
+        Placing(verdict=Verdict.COVERED, units=5, cost=9, flow=((1, 0), (2, 2)))
     """
-    return find_and_run(book_bytes(costs), amounts_bytes(lots, calls))
+    run = find_and_run_idle if idle else find_and_run
+    return run(book_bytes(costs), amounts_bytes(lots, calls))

@@ -26,6 +26,8 @@ class Cause(enum.IntEnum):
     COUNTS_DIFFER = 15
     AMOUNT_TOO_HIGH = 16
     BUFFER_TOO_SHORT = 17
+    CALLS_EXCEED_LOTS = 18
+    NO_IDLE_CALL = 19
 
 
 # A sentence has one gap for each value that the table returns.
@@ -42,11 +44,13 @@ _SENTENCES = {
     Cause.PAIR_MET_BEFORE: "the pair at place {} of the order was met before",
     Cause.CROSS_NOT_ELIGIBLE: "lot {}, call {} comes too early in the order: lot {}, call {} is not eligible",
     Cause.CROSS_SUM_TOO_HIGH: "lot {}, call {} comes too early in the order: its cost and that of lot {}, call {} sum too high",
-    Cause.NO_ORDER: "no order of this book's pairs is good for all amounts",
+    Cause.NO_ORDER: "no order of this book's pairs (with an idle call: of the enlarged book's) is good for all amounts",
     Cause.PAIR_MISSING: "an eligible pair is missing from the order",
     Cause.COUNTS_DIFFER: "the amounts' count of lots or calls differs from the book's",
     Cause.AMOUNT_TOO_HIGH: "an amount is above 1,000,000,000",
     Cause.BUFFER_TOO_SHORT: "the lent buffer is too short",
+    Cause.CALLS_EXCEED_LOTS: "the calls ask for more units than the lots have, so that none can stay idle",
+    Cause.NO_IDLE_CALL: "the book already has 32 calls, and the idle call would be one more",
 }
 
 
@@ -54,7 +58,7 @@ class Refused(ValueError):
     """An input was refused; every lent buffer is as it was.
 
     Attributes:
-        number: 1 to 17, as in document 01.
+        number: 1 to 19, as in document 01.
         cause: the same as a `Cause`.
         values: the table's values in its order, as (lot,), (lot, call), (place,) or (i, j, k, l); often none.
 

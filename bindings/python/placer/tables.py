@@ -15,6 +15,7 @@ from .refused import Cause, Refused
 MOST = 32  # lots or calls
 COST_MOST = 1_000_000
 AMOUNT_MOST = 1_000_000_000
+SOLVER = "use a flow solver on what `placer dimacs` writes"
 
 
 class BadInput(Exception):
@@ -41,8 +42,7 @@ def told(path: str, call: Callable[..., Any], *arguments: Any) -> Any:
     try:
         return call(*arguments)
     except Refused as refused:
-        hint = "; use a flow solver on what `placer dimacs` writes" if refused.cause is Cause.NO_ORDER else ""
-        raise BadInput(path, None, str(refused) + hint) from None
+        raise BadInput(path, None, f"{refused}; {SOLVER}" if refused.cause is Cause.NO_ORDER else str(refused)) from None
 
 
 def contents(path: str) -> bytes:

@@ -14,7 +14,7 @@ from unittest import mock
 
 import placer
 from placer.cli import main
-from support import AMOUNTS, BOOK, NO_ORDER, ORDER, Case
+from support import AMOUNTS, BOOK, NO_ORDER, NO_ORDER_IDLE, ORDER, SPARE, Case
 
 ROOT = Path(placer.__file__).resolve().parents[3]
 TABLES = ["pairs.csv", "lots.csv", "calls.csv"]
@@ -96,6 +96,36 @@ class Command(Case):
         self.write({"pairs.csv": "lot,call,cost\nBund 2031,Clearing A,1\n", "lots.csv": LOTS})
         self.assertEqual(self.run_it("place", *TABLES), (1, "lot,call,units\nBund 2031,Clearing A,3\n", "short: 3 units, cost 3\n"))
 
+    def test_idle(self):
+        """With --idle the dear lot keeps what is to spare."""
+        self.write({"spare.clb": placer.book_bytes(SPARE), "spare.cla": placer.amounts_bytes([3, 4], [3, 2])})
+        files = ["spare.clb", "spare.cla"]
+        self.assertEqual(self.run_it("place", "--idle", *files), (0, "lot,call,units\n0,0,1\n1,0,2\n1,1,2\n", "covered: 5 units, cost 9\n"))
+        self.assertEqual(self.run_it("place", *files), (0, "lot,call,units\n0,0,3\n1,1,2\n", "covered: 5 units, cost 13\n"))
+        self.assertEqual(self.run_it("place", "--idle", *TABLES)[::2], (0, "full: 9 units, cost 24\n"))
+        self.write({"pairs.csv": "lot,call,cost\nBund 2031,Clearing A,1\n"})
+        self.assertEqual(self.run_it("place", "--idle", *TABLES)[::2], (1, "short: 3 units, cost 3\n"))
+        self.assertIn("not allowed with argument --idle", self.run_it("place", "--idle", "--order", "order.clo", *TABLES)[2])
+
+    def test_idle_refused(self):
+        """A refusal with --idle is told of the file that has the cause, and says what to do instead."""
+        files = {"spare": (SPARE, [3, 1], [3, 2]), "none": (NO_ORDER_IDLE, [1] * 3, [1] * 2), "neither": (NO_ORDER, [1] * 3, [1] * 3)}
+        for name, (costs, lots, calls) in files.items():
+            self.write({f"{name}.clb": placer.book_bytes(costs), f"{name}.cla": placer.amounts_bytes(lots, calls)})
+        self.write({"calls.csv": CALLS + "".join(f"{c},0\n" for c in range(30))})
+        solver = "use a flow solver on what `placer dimacs` writes"
+        least = f"place without --idle, or, for the least cost, {solver}"
+        for start, instead, names in [
+            ("spare.cla: refused 18: the calls ask for more units", "place without --idle", ["spare.clb", "spare.cla"]),
+            ("calls.csv: refused 19: the book already has 32 calls", least, TABLES),
+            ("none.clb: refused 13: with an idle call no order", least, ["none.clb", "none.cla"]),
+            ("neither.clb: refused 13: no order", solver, ["neither.clb", "neither.cla"]),
+        ]:
+            status, out, message = self.run_it("place", "--idle", *names)
+            self.assertEqual((status, out), (2, ""))
+            self.assertTrue(message.startswith(f"placer: {start}") and message.endswith(f"; {instead}\n"), message)
+        self.assertEqual(self.run_it("place", "none.clb", "none.cla")[0], 0)
+
     def test_status_stands(self):
         """Messages that cannot be written change no status, a failure is never told as short, and the tables are UTF-8 in any locale."""
         self.write({"lots.csv": LOTS.replace(",5", ",6").replace("Bund", "Bünd"), "pairs.csv": PAIRS.replace("Bund", "Bünd")})
@@ -169,17 +199,17 @@ class Command(Case):
 
     @unittest.skipUnless(shutil.which("dimacs-solver"), "LEMON's dimacs-solver is not installed")
     def test_dimacs_solver(self):
-        """LEMON finds the same cost of what is exported."""
+        """LEMON finds the same cost of what is exported, with stock to spare that of the run with an idle call."""
         rng = random.Random(4)
-        for _ in range(10):
+        for spare in [0] * 10 + [500] * 10:
             lots, calls = ([rng.randint(0, 1000) for _ in range(6)] for _ in range(2))
             costs = [[lot * call for call in calls] for lot in lots]
             calls[-1] += max(0, sum(lots) - sum(calls))
-            lots[-1] += max(0, sum(calls) - sum(lots))
+            lots[-1] += max(0, sum(calls) - sum(lots)) + spare
             self.write({"book.clb": placer.book_bytes(costs), "amounts.cla": placer.amounts_bytes(lots, calls)})
             self.assertEqual(self.run_it("dimacs", "book.clb", "amounts.cla", "-o", "book.min")[0], 0)
             ran = subprocess.run(["dimacs-solver", "book.min"], capture_output=True, text=True, check=True)
-            self.assertIn(f"Min flow cost: {placer.place(costs, lots, calls).cost}\n", ran.stdout + ran.stderr)
+            self.assertIn(f"Min flow cost: {placer.place(costs, lots, calls, idle=spare > 0).cost}\n", ran.stdout + ran.stderr)
 
     def test_help(self):
         """Help and version, and the message for a wrong count of files; the module runs as a program."""

@@ -4,7 +4,7 @@ import unittest
 
 import placer
 from placer import Verdict, amounts_bytes, book_bytes, order_bytes
-from support import F1, NO_ORDER, Case
+from support import F1, NO_ORDER, NO_ORDER_IDLE, SPARE, Case
 
 F6 = [[0, 0], [0, None]]
 MOST = 1_000_000_000
@@ -76,6 +76,43 @@ class Known(Case):
         self.placed(F1, [1, 1], [2, 2], Verdict.SHORT, 2, 5, ((0, 1), (1, 0)))
         self.placed([[None]], [1], [0], Verdict.COVERED, 0, 0)
         self.placed([[5], [1]], [1, 1], [1], Verdict.COVERED, 1, 5, ((1,), (0,)))
+
+    def idle(self, costs, lots, calls, *expected):
+        """Check that both calls with an idle call give this answer: verdict, units, cost and flow."""
+        book, amounts = book_bytes(costs), amounts_bytes(lots, calls)
+        for placing in (placer.find_and_run_idle(book, amounts), placer.place(costs, lots, calls, idle=True)):
+            self.assertEqual((placing.verdict, placing.units, placing.cost, placing.flow), expected)
+
+    def test_idle(self):
+        """With an idle call the dear units stay in the box; on equal totals none does; a lot may be eligible for no other call."""
+        self.placed(SPARE, [3, 4], [3, 2], Verdict.COVERED, 5, 13, ((3, 0), (0, 2)))
+        self.idle(SPARE, [3, 4], [3, 2], Verdict.COVERED, 5, 9, ((1, 0), (2, 2)))
+        self.idle([[5], [1]], [1, 1], [1], Verdict.COVERED, 1, 1, ((0,), (1,)))
+        self.idle(F1, [5, 4], [3, 6], Verdict.FULL, 9, 24, ((0, 5), (3, 1)))
+        self.idle(SPARE, [0, 0], [0, 0], Verdict.FULL, 0, 0, ((0, 0), (0, 0)))
+        self.idle([[None]], [5], [0], Verdict.COVERED, 0, 0, ((0,),))
+        self.idle([[None]], [5], [5], Verdict.SHORT, 0, 0, ((0,),))
+
+    def test_idle_largest(self):
+        """What stays idle may exceed 32 bits, and with 31 calls there is room for it."""
+        rows = ((0,) * 31,) * 32
+        self.idle([[None]] * 32, [MOST] * 32, [0], Verdict.COVERED, 0, 0, ((0,),) * 32)
+        self.idle([[1_000_000] * 31] * 32, [MOST] * 32, [0] * 31, Verdict.COVERED, 0, 0, rows)
+        placing = placer.place([[1_000_000] * 31] * 32, [MOST] * 32, [MOST] * 31, idle=True)
+        self.assertEqual((placing.verdict, placing.units, placing.cost), (Verdict.COVERED, 31 * MOST, 31 * 10**15))
+
+    def test_idle_refused(self):
+        """13 is about the enlarged book, which may have no order where the book has one; 18 and 19 are of the idle call alone."""
+        zeros = [0] * 32
+        for number, costs, lots, calls in [
+            (13, NO_ORDER_IDLE, [1] * 3, [1] * 2),
+            (18, SPARE, [3, 1], [3, 2]),
+            (19, [zeros], [1], [1] + zeros[1:]),
+        ]:
+            self.refused(number, (), placer.find_and_run_idle, book_bytes(costs), amounts_bytes(lots, calls))
+            self.refused(number, (), lambda *of: placer.place(*of, idle=True), costs, lots, calls)
+            placer.place(costs, lots, calls)
+        self.assertRaises(TypeError, placer.place, SPARE, [3, 4], [3, 2], True)
 
     def test_f14(self):
         """Too many calls, and a bit outside."""

@@ -62,6 +62,26 @@ class Model(unittest.TestCase):
             self.assertEqual([[placer.pair_cost(book, lot, call) for call in range(len(row))] for lot, row in enumerate(costs)], costs)
         self.assertGreater(min(verdicts[verdict] for verdict in placer.Verdict), 50)
 
+    def test_idle(self):
+        """With an idle call: the plain version's reply and flow, and the least cost of all allocations that meet every call."""
+        replies, cheaper = Counter(), 0
+        for _, costs, amounts in books(800, 3):
+            book, file, expected = book_bytes(costs), amounts_bytes(*amounts), model.idle(costs, *amounts)
+            placing = self.reply(placer.find_and_run_idle, book, file)
+            if isinstance(expected, int):
+                self.assertEqual(placing, (expected, ()))
+                replies[expected] += 1
+                continue
+            self.assertEqual(placing, placer.Placing(placer.Verdict[expected[0]], *expected[1:]))
+            self.assertEqual(placing, placer.place(costs, *amounts, idle=True))
+            self.assertEqual(placing.cost if placing.met else None, model.least_cost(costs, *amounts))
+            plain = placer.find_and_run(book, file)
+            self.assertEqual((plain.verdict, plain.units), (placing.verdict, placing.units))
+            cheaper += placing.cost < plain.cost
+            replies[placing.verdict.name] += 1
+        self.assertEqual(set(replies), {"FULL", "COVERED", "SHORT", 13, 18})
+        self.assertGreater(min(cheaper, *replies.values()), 30)
+
 
 if __name__ == "__main__":
     unittest.main()

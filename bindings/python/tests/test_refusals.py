@@ -7,7 +7,7 @@ from array import array
 
 import placer
 from placer import Cause, Refused, amounts_bytes, book_bytes, order_bytes
-from support import AMOUNTS, BOOK, NO_ORDER, ORDER, Case
+from support import AMOUNTS, BOOK, NO_ORDER, NO_ORDER_IDLE, ORDER, SPARE, Case
 
 
 def changed(data, at, *new):
@@ -66,6 +66,7 @@ class Refusals(Case):
             self.refused(number, values, placer.find_order, book, buffer)
             self.refused(number, values, placer.run_order, book, b"", b"", flow)
             self.refused(number, values, placer.find_and_run, book, b"", flow)
+            self.refused(number, values, placer.find_and_run_idle, book, b"", flow)
             self.assertEqual(len(placer.lot_costs(book, 0)), 0)
             self.refused(number, values, lambda file: placer.pair_cost(file, 0, 0), book)
             self.refused(number, values, lambda file: placer.pair_cost(file, 32, 2**64 - 1), book)
@@ -84,6 +85,7 @@ class Refusals(Case):
             self.refused(number, values, placer.read_amounts, BOOK, file)
             self.refused(number, values, placer.run_order, BOOK, ORDER, file, array("I"))
             self.refused(number, values, placer.find_and_run, BOOK, file, array("I", [7]))
+            self.refused(number, values, placer.find_and_run_idle, BOOK, file, array("I", [7]))
 
     def test_buffers(self):
         """Short buffers are 17, before 13; longer ones keep what lies after."""
@@ -97,6 +99,21 @@ class Refusals(Case):
         placer.run_order(BOOK, ORDER, AMOUNTS, flow)
         placer.find_order(BOOK, buffer)
         self.assertEqual((flow.tolist(), buffer), ([0, 5, 3, 1, 7, 7], ORDER + b"77"))
+
+    def test_idle(self):
+        """With an idle call 18 comes before 19, 19 before 17, which is by the book's own calls, and 17 before 13."""
+        zeros = [0] * 32
+        for number, costs, lots, calls, entries in [
+            (18, [zeros], [0], [1] + zeros[1:], 0),
+            (19, [zeros], [1], [1] + zeros[1:], 0),
+            (17, NO_ORDER_IDLE, [0] * 3, [0] * 2, 5),
+            (13, NO_ORDER_IDLE, [0] * 3, [0] * 2, 6),
+        ]:
+            flow = array("I", [7] * entries)
+            self.refused(number, (), placer.find_and_run_idle, book_bytes(costs), amounts_bytes(lots, calls), flow)
+        flow = array("I", [7] * 5)
+        placer.find_and_run_idle(book_bytes(SPARE), amounts_bytes([3, 4], [3, 2]), flow)
+        self.assertEqual(flow.tolist(), [1, 0, 2, 2, 7])
 
     def test_damaged(self):
         """Files with bytes changed, cut or added are accepted or refused; a refusal leaves the buffer."""
@@ -119,8 +136,8 @@ class Refusals(Case):
             self.assertIsInstance(error, ValueError)
             self.assertIs(error.cause, cause)
             self.assertRegex(str(error), rf"^refused {cause.value}: \w")
-        self.assertEqual([len(Refused(cause, (0,) * 4).values) for cause in Cause], [0, 0, 0, 0, 1, 0, 2, 0, 1, 1, 4, 4, 0, 0, 0, 0, 0])
-        self.assertRaises(ValueError, Refused, 18)
+        self.assertEqual([len(Refused(cause, (0,) * 4).values) for cause in Cause], [0, 0, 0, 0, 1, 0, 2, 0, 1, 1, 4, 4] + [0] * 7)
+        self.assertRaises(ValueError, Refused, 20)
 
 
 if __name__ == "__main__":
