@@ -20,6 +20,7 @@
 #endif
 
 static const char *const families[] = {"natural", "permuted", "few levels", "all equal", "band", "sparse"};
+static const size_t complete = 4;  // so many of these have all pairs eligible, and are measured with an idle call too
 static const int sizes[] = {8, 16, 24, 32};
 static uint32_t flow[1024];
 static uint8_t order[2055];
@@ -38,6 +39,14 @@ static Answer by_run(const Problem &p) {
                                    1024));
 }
 
+// With the idle call's units, as LEMON answers of the enlarged book.
+static Answer by_find_and_run_idle(const Problem &p) {
+    const placer_reply reply =
+        placer_find_and_run_idle(p.book.data(), p.book.size(), p.amounts.data(), p.amounts.size(), flow, 1024);
+    const bool met = !reply.number && reply.verdict == (p.calls.back() ? PLACER_COVERED : PLACER_FULL);
+    return met ? Answer{int64_t(reply.values[0]) + p.calls.back(), int64_t(reply.values[1])} : Answer{-1, -1};
+}
+
 // The calls that do not place answer the right placing if their own answer is right.
 static Answer if_right(bool right, const Answer &expected) { return right ? expected : Answer{-1, -1}; }
 
@@ -47,7 +56,7 @@ struct Call {
     std::function<Answer(const Problem &, const Answer &)> run;
 };
 
-static const Call calls[] = {
+static const std::vector<Call> calls = {
     {"read_book", 64, 21,
      [](const Problem &p, const Answer &a) { return if_right(placer_read_book(p.book.data(), p.book.size()).number == 0, a); }},
     {"check_order", 64, 21,
@@ -67,11 +76,16 @@ static const Call calls[] = {
     {"GLPK", 8, 3, [](const Problem &p, const Answer &) { return by_glpk(p); }},
 };
 
-static std::vector<Problem> make(const char *family, int size, size_t count) {
+static const std::vector<Call> idle_calls = {
+    {"find_and_run_idle", 64, 21, [](const Problem &p, const Answer &) { return by_find_and_run_idle(p); }},
+    {"LEMON, idle", 64, 21, [](const Problem &p, const Answer &) { return by_lemon(p); }},
+};
+
+static std::vector<Problem> make(const char *family, int size, size_t count, bool idle) {
     Maker maker(unsigned(size) * 31 + unsigned(family[0]));
     std::vector<Problem> problems;
     for (size_t b = 0; b < count; b++) {
-        problems.push_back(maker.make(family, size));
+        problems.push_back(maker.make(family, size, idle));
         Problem &p = problems.back();
         const placer_reply reply = placer_find_order(p.book.data(), p.book.size(), order, sizeof order);
         if (reply.number) std::fprintf(stderr, "%s %d: refused %u\n", family, size, reply.number), std::exit(1);
@@ -104,31 +118,32 @@ static double now() {
     return 1e6 * double(time.tv_sec) + 1e-3 * double(time.tv_nsec);
 }
 
-static void time_family(const char *family, int size) {
-    const std::vector<Problem> problems = make(family, size, 64);
+static void time_family(const char *family, int size, bool idle) {
+    const std::vector<Call> &calls = idle ? idle_calls : ::calls;
+    const std::vector<Problem> problems = make(family, size, 64, idle);
     const Answers expected = solved(problems);
     Answers answers(problems.size());
-    std::vector<double> times[std::size(calls)];
+    std::vector<std::vector<double>> times(calls.size());
     for (size_t round = 0; round < 21; round++)
-        for (size_t c = 0; c < std::size(calls); c++) {
+        for (size_t c = 0; c < calls.size(); c++) {
             if (round >= calls[c].rounds) continue;
             const double start = now();
             pass(calls[c], problems, expected, answers);
             times[c].push_back((now() - start) / double(calls[c].books));
             for (size_t b = 0; b < calls[c].books; b++, compared++) differing += !(answers[b] == expected[b]);
         }
-    for (size_t c = 0; c < std::size(calls); c++) {
+    for (size_t c = 0; c < calls.size(); c++) {
         std::sort(times[c].begin(), times[c].end());
         std::printf("time\t%s\t%d\t%s\t%.3f\n", family, size, calls[c].name, times[c][times[c].size() / 2]);
     }
     std::fflush(stdout);
 }
 
-static void count_family(const char *family) {
-    const std::vector<Problem> problems = make(family, 32, 8);
+static void count_family(const char *family, bool idle) {
+    const std::vector<Problem> problems = make(family, 32, 8, idle);
     const Answers expected = solved(problems);
     Answers answers(problems.size());
-    for (const Call &call : calls) {
+    for (const Call &call : idle ? idle_calls : calls) {
         const std::string label = std::string(family) + "\t" + call.name;
         CALLGRIND_TOGGLE_COLLECT;
         pass(call, problems, expected, answers);
@@ -139,10 +154,12 @@ static void count_family(const char *family) {
 
 int main(int count, char **words) {
     const bool counting = count > 1 && !std::strcmp(words[1], "count");
-    for (const char *family : families) {
-        if (counting) count_family(family);
+    for (size_t f = 0; f < std::size(families) + complete; f++) {
+        const bool idle = f >= std::size(families);
+        const char *const family = families[f % std::size(families)];
+        if (counting) count_family(family, idle);
         for (int size : sizes)
-            if (!counting) time_family(family, size);
+            if (!counting) time_family(family, size, idle);
     }
     if (!counting) std::printf("answers\t%ld\t%ld\n", compared, differing);
     return differing != 0;

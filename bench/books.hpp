@@ -1,4 +1,5 @@
-// The books that are measured: six families, each with an order, and amounts that some allocation meets.
+// The books that are measured: six families, each with an order, and amounts that some allocation meets. For a run with an idle call the
+// last call is left out of the files.
 #pragma once
 #include <algorithm>
 #include <cstdint>
@@ -80,40 +81,57 @@ class Maker {
         return cost;
     }
 
+    // Costs with all pairs eligible become 0 in the last column, and 0 or more in the others. What is taken from a whole row or column
+    // makes no difference to an order.
+    static void free_last(Matrix &cost) {
+        for (auto &row : cost) {
+            const int64_t last = row.back();
+            for (auto &c : row) c -= last;
+        }
+        for (size_t j = 0; j + 1 < cost.size(); j++) {
+            int64_t least = cost[0][j];
+            for (auto &row : cost) least = std::min(least, row[j]);
+            for (auto &row : cost) row[j] -= least;
+        }
+    }
+
     static void put(std::vector<uint8_t> &file, uint64_t number, int bytes) {
         for (int b = 0; b < bytes; b++) file.push_back(uint8_t(number >> 8 * b));
     }
 
-    static std::vector<uint8_t> opening(char kind, int size) {
-        return {'C', 'L', uint8_t(kind), 1, 0, uint8_t(size), uint8_t(size)};
+    static std::vector<uint8_t> opening(char kind, int lots, int calls) {
+        return {'C', 'L', uint8_t(kind), 1, 0, uint8_t(lots), uint8_t(calls)};
     }
 
   public:
     explicit Maker(unsigned seed) : random(seed) {}
 
-    Problem make(const std::string &family, int size) {
+    // With `idle`, the pairs and amounts are those of the enlarged book, the files those of the book without its idle call.
+    Problem make(const std::string &family, int size, bool idle) {
+        const int calls = size - idle;
         Problem p;
         p.size = size;
         p.lots.resize(size);
         p.calls.resize(size);
-        p.book = opening('B', size);
-        const Matrix cost = costs(family, size);
+        p.book = opening('B', size, calls);
+        Matrix cost = costs(family, size);
+        if (idle) free_last(cost);
         for (int i = 0; i < size; i++) {
             uint32_t word = 0;
-            for (int j = 0; j < size; j++) word |= uint32_t{cost[i][j] != gap} << j;
+            for (int j = 0; j < calls; j++) word |= uint32_t{cost[i][j] != gap} << j;
             put(p.book, word, 4);
             for (int j = 0; j < size; j++) {
                 if (cost[i][j] == gap) continue;
-                put(p.book, cost[i][j], 4);
+                if (j < calls) put(p.book, cost[i][j], 4);
                 p.pairs.push_back({i, j, cost[i][j]});
                 const int64_t units = upto(3) ? 0 : upto(1000);  // a hidden allocation, so that one meets everything
                 p.lots[i] += units;
                 p.calls[j] += units;
             }
         }
-        p.amounts = opening('A', size);
-        for (auto *side : {&p.lots, &p.calls})
-            for (int64_t amount : *side) put(p.amounts, amount, 4);
+        p.amounts = opening('A', size, calls);
+        for (int64_t amount : p.lots) put(p.amounts, amount, 4);
+        for (int j = 0; j < calls; j++) put(p.amounts, p.calls[j], 4);
         return p;
     }
 };

@@ -1,4 +1,4 @@
-"""Prints how often a random book has an order, for docs/WHEN-TO-USE.md. Run with PYTHONPATH=bindings/python."""
+"""Prints how often a random book has an order, and with an idle call, for docs/WHEN-TO-USE.md. Run with PYTHONPATH=bindings/python."""
 
 import random
 
@@ -53,10 +53,10 @@ KINDS = {
 }
 
 
-def has_order(costs):
-    """Say whether the finder finds an order."""
+def has_order(costs, idle):
+    """Say whether an order is found."""
     try:
-        placer.find_order(placer.book_bytes(costs))
+        placer.place(costs, [0] * len(costs), [0] * len(costs), idle=idle)
         return True
     except placer.Refused as refused:
         if refused.cause is not placer.Cause.NO_ORDER:
@@ -75,7 +75,11 @@ def main():
     print("| Costs | " + " | ".join(f"{size} by {size}" for size in SIZES) + " |\n" + "|---" * (1 + len(SIZES)) + "|")
     for kind, costs in KINDS.items():
         rng = random.Random(1)
-        shares = [percent(sum(has_order(costs(rng, size)) for _ in range(BOOKS))) for size in SIZES]
+        shares = []
+        for size in SIZES:
+            books = [costs(rng, size) for _ in range(BOOKS)]
+            alone, idle = (percent(sum(has_order(book, idle) for book in books)) for idle in (False, True))
+            shares.append(alone if alone == idle else f"{alone} ({idle})")
         print(f"| {kind} | " + " | ".join(shares) + " |")
 
 

@@ -22,6 +22,8 @@ FAMILIES = {
 }
 CALLS = ["read_book", "check_order", "run_order", "find_order", "find_and_run", "LEMON", "CLP", "GLPK"]
 SIZES = [8, 16, 24, 32]
+IDLE_CALLS = ["find_and_run_idle", "LEMON, idle"]
+IDLE_FAMILIES = list(FAMILIES)[:4]
 LINES = {"run_order": "#0072b2", "find_and_run": "#009e73", "LEMON": "#d55e00", "CLP": "#cc79a7", "GLPK": "#777777"}
 
 HEAD = """# Benchmarks
@@ -97,18 +99,30 @@ def times_tables(times):
     return text + "\n![Microseconds a call by size, for each family](benchmarks.svg)\n"
 
 
-def ratio_table(times, call):
+def ratio_table(times, call, solver="LEMON", families=tuple(FAMILIES)):
     """Return how many times faster than LEMON a call is, at each size: the median of the runs, and the spread."""
     ratios = {
-        (name, size): [lemon / ours for lemon, ours in zip(times[name, size, "LEMON"], times[name, size, call])]
-        for name in FAMILIES
+        (name, size): [lemon / ours for lemon, ours in zip(times[name, size, solver], times[name, size, call])]
+        for name in families
         for size in SIZES
     }
-    rows = [[name, *(f"{quantity(median(ratios[name, size]))} ({spread(ratios[name, size])})" for size in SIZES)] for name in FAMILIES]
+    rows = [[name, *(f"{quantity(median(ratios[name, size]))} ({spread(ratios[name, size])})" for size in SIZES)] for name in families]
     slower = sum(median(values) < 1 for values in ratios.values())
     at_worst = sum(min(values) < 1 for values in ratios.values())
     text = table([f"`{call}`", *SIZES], rows)
     return text + f"\nBelow 1 LEMON is faster: in {slower} of these {len(ratios)} cases. By the lowest ratio of the runs: in {at_worst}.\n"
+
+
+def idle_tables(times, counts):
+    """Return the figures of the run with an idle call: ratios at each size, and times and instructions at 32."""
+    text = "\n## With an idle call: how many times faster than LEMON\n\n"
+    text += "Books with all pairs eligible, one call fewer than lots, and stock to spare. LEMON is handed the enlarged book.\n\n"
+    text += ratio_table(times, *IDLE_CALLS, IDLE_FAMILIES)
+    text += f"\n32 lots, 31 calls and the idle call: microseconds{', and thousands of instructions by callgrind' if counts else ''}.\n\n"
+    rows = [[name, *(quantity(median(times[name, 32, call])) for call in IDLE_CALLS)] for name in IDLE_FAMILIES]
+    if counts:
+        rows = [row + [quantity(counts[row[0], call] / 1000) for call in IDLE_CALLS] for row in rows]
+    return text + table(["", *IDLE_CALLS, *(f"{call}, instructions" for call in IDLE_CALLS if counts)], rows)
 
 
 def stack_table(calls, bound):
@@ -136,7 +150,7 @@ def page(times, answers, counts, stack):
         text += "\n## Instructions a call at 32, thousands\n\n"
         text += "By callgrind, over 8 books of each family; these do not depend on the machine's load.\n\n"
         text += table(["", *CALLS], [[name, *(quantity(counts[name, call] / 1000) for call in CALLS)] for name in FAMILIES])
-    return text + stack_table(*stack)
+    return text + idle_tables(times, counts) + stack_table(*stack)
 
 
 def panel(name, times, low, high):
