@@ -128,7 +128,7 @@ def idle_tables(times, counts):
 def stack_table(calls, bound):
     """Return the stack that each call takes."""
     text = "\n## Stack a call, bytes\n\n"
-    text += "On the largest book, and for the finder also on that book less one pair, which it searches in another way.\n"
+    text += "On the largest book, with an idle call that of 31 calls, and also on that book less one pair, which is searched in another way.\n"
     text += f"By `tests/stack.c`, which fails above the bound in `placer.h`, {bound:,}.\n\n"
     return text + table(["call", "bytes"], [[name, f"{int(count):,}"] for name, count in calls])
 

@@ -85,7 +85,8 @@ enum placer_number {
     PLACER_NO_IDLE_CALL = 19        /* with an idle call: the book already has 32 calls */
 };
 
-/* The verdict of a run. Least cost is promised for Full, and by placer_find_and_run_idle for Covered as well. */
+/* The verdict of a run. Whatever the verdict, no allocation places more units. Least cost is promised for Full, and by
+ * placer_find_and_run_idle for Covered as well. */
 enum placer_verdict {
     PLACER_NO_RUN = 0, /* the call refused, or is not a run */
     PLACER_FULL = 1,   /* nothing is left in any lot or call; no allocation that meets everything costs less */

@@ -50,7 +50,7 @@ class Placing:
 
     Attributes:
         verdict: whether everything, or every call, is met.
-        units: how many units were placed.
+        units: how many units were placed; no allocation has more.
         cost: the sum of units times cost, in hundredths of a cent.
         flow: the units of each pair: `flow[lot][call]`, 0 where not eligible.
     """
@@ -221,7 +221,7 @@ def run_order(book: BytesLike, order: BytesLike, amounts: BytesLike, flow: Optio
         flow: a buffer of 32-bit items to write the flow into as well, entry lot * calls + call; later ones keep their contents.
 
     Returns:
-        The placing; no allocation has more units. If its verdict is not FULL its cost need not be the least.
+        The placing. If its verdict is not FULL its cost need not be the least.
 
     Raises:
         Refused: the book's refusal; the order's; the amounts'; then 17.

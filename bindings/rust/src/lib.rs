@@ -60,8 +60,7 @@ pub struct Size {
     pub calls: usize,
 }
 
-/// Whether a run met everything, or every call. By [`find_and_run`] and [`run_order`], whatever the verdict, no other allocation places
-/// more units.
+/// Whether a run met everything, or every call. Whatever the verdict, no other allocation places more units.
 ///
 /// ```
 /// use placer::{find_and_run, Verdict};
