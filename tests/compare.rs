@@ -5,6 +5,8 @@
 mod demand3;
 mod families;
 mod files;
+mod idle;
+mod known;
 mod library;
 mod placing;
 mod program;
@@ -13,30 +15,37 @@ mod samples;
 mod sections;
 #[path = "../bindings/rust/src/sys.rs"]
 mod sys;
+mod wrong;
 
-use library::Comparison;
-use reference::{Wrong, WRONG};
+use library::{Comparison, Tallies, Tally, IDLE};
 use std::path::Path;
 use std::sync::atomic::{AtomicUsize, Ordering};
 use std::sync::Mutex;
 use std::time::Instant;
+use wrong::{Wrong, WRONG};
 
 type Work<'a> = Box<dyn Fn(&mut Comparison) + Sync + 'a>;
 
 /// What a part came to.
 struct Outcome {
-    cases: u64,
-    differences: u64,
-    numbers: [u64; 18],
-    verdicts: [u64; 4],
+    tallies: Tallies,
     seconds: f64,
 }
 
 fn outcome(wrong: Wrong, work: &Work) -> Outcome {
     let (start, mut c) = (Instant::now(), Comparison::new(wrong));
     work(&mut c);
-    let seconds = start.elapsed().as_secs_f64();
-    Outcome { cases: c.cases, differences: c.differences, numbers: c.numbers, verdicts: c.verdicts, seconds }
+    Outcome { tallies: c.tallies, seconds: start.elapsed().as_secs_f64() }
+}
+
+fn sum<'a>(tallies: impl Iterator<Item = &'a Tally>) -> Tally {
+    tallies.fold(Tally::default(), |mut sum, tally| {
+        sum.cases += tally.cases;
+        sum.differences += tally.differences;
+        sum.numbers.iter_mut().zip(tally.numbers).for_each(|(sum, times)| *sum += times);
+        sum.verdicts.iter_mut().zip(tally.verdicts).for_each(|(sum, times)| *sum += times);
+        sum
+    })
 }
 
 /// Runs all parts, two or more at a time; the outcomes in the sequence of the parts.
@@ -62,17 +71,24 @@ fn run_all(parts: &[(Wrong, Work)]) -> Vec<Outcome> {
     outcomes.into_iter().map(|(_, done)| done).collect()
 }
 
+/// Whether a wrong reference was noticed: by each of these entry points, or by any where none is named.
+fn noticed(tallies: &Tallies, names: &[&str]) -> bool {
+    let differs = |tally: &Tally| tally.differences > 0;
+    tallies.values().any(differs) && names.iter().all(|name| tallies.get(name).map_or(false, differs))
+}
+
 /// The cases in which a wrong reference is to be noticed: it stops once it is.
-fn notice(c: &mut Comparison) {
-    let parts: [fn(&mut Comparison); 4] = [
-        sections::limits,
+fn notice(c: &mut Comparison, names: &[&str]) {
+    let parts: [fn(&mut Comparison); 5] = [
         |c| sections::random_books(c, 200, 6, 2),
         |c| sections::damage(c, &samples::stored_books()[..4]),
+        sections::limits,
         sections::small_books,
+        known::known_idle,
     ];
     let _ = parts.iter().any(|part| {
         part(c);
-        c.differences > 0
+        noticed(&c.tallies, names)
     });
 }
 
@@ -90,7 +106,8 @@ fn all_parts(path: &Path) -> Vec<(&str, Work<'_>)> {
         ("families to 31 by 31", Box::new(|c| families::families(c, 2, &[14, 24, 31]))),
         ("families to 32 by 32", Box::new(|c| families::families(c, 2, &[1, 2, 17, 32]))),
         ("limits", Box::new(sections::limits)),
-        ("known runs", Box::new(sections::known)),
+        ("known runs", Box::new(known::known)),
+        ("known runs with an idle call", Box::new(known::known_idle)),
         ("long orders", Box::new(sections::long_orders)),
         ("demand 3 and verdicts by brute force", Box::new(demand3::demand3)),
     ];
@@ -101,16 +118,19 @@ fn all_parts(path: &Path) -> Vec<(&str, Work<'_>)> {
     parts
 }
 
-/// Prints how often each number and each verdict came; the count of those that never did.
+/// Prints how often each number and each verdict came, in all and in the run with an idle call, which meets no order's numbers; the count
+/// of those that never did.
 fn unseen(outcomes: &[Outcome]) -> u64 {
-    let (mut numbers, mut verdicts) = ([0; 18], [0; 4]);
-    for done in outcomes {
-        numbers.iter_mut().zip(done.numbers).for_each(|(sum, times)| *sum += times);
-        verdicts.iter_mut().zip(done.verdicts).for_each(|(sum, times)| *sum += times);
-    }
-    let [_, full, short, covered] = verdicts;
-    println!("accepted {}; refused by 1 to 17: {:?}; runs full {full}, short {short}, covered {covered}", numbers[0], &numbers[1..]);
-    numbers.iter().chain(&verdicts).filter(|&&times| times == 0).count() as u64
+    let all = sum(outcomes.iter().flat_map(|done| done.tallies.values()));
+    let idle = sum(outcomes.iter().filter_map(|done| done.tallies.get(IDLE.name)));
+    let print = |(name, tally, never): (&str, Tally, &[usize])| {
+        let ([_, full, short, covered], numbers) = (tally.verdicts, tally.numbers);
+        print!("{name}: {} cases, accepted {}; refused by 1 to 19: {:?}; ", tally.cases, numbers[0], &numbers[1..]);
+        println!("runs full {full}, short {short}, covered {covered}");
+        let expected = (0..numbers.len()).filter(|number| !never.contains(number)).map(|number| numbers[number]);
+        expected.chain(tally.verdicts).filter(|&times| times == 0).count() as u64
+    };
+    [("all", all, &[][..]), (IDLE.name, idle, &[9, 10, 11, 12, 14])].into_iter().map(print).sum()
 }
 
 fn main() {
@@ -119,14 +139,18 @@ fn main() {
     let outcomes = run_all(&works.into_iter().map(|work| (Wrong::Nothing, work)).collect::<Vec<_>>());
     let (mut cases, mut differences) = (0, 0);
     for (name, done) in names.iter().zip(&outcomes) {
-        println!("{name}: {} cases, {} differences, {:.1} s", done.cases, done.differences, done.seconds);
-        cases += done.cases;
-        differences += done.differences;
+        let tally = sum(done.tallies.values());
+        println!("{name}: {} cases, {} differences, {:.1} s", tally.cases, tally.differences, done.seconds);
+        cases += tally.cases;
+        differences += tally.differences;
     }
     differences += unseen(&outcomes);
 
-    let wrong = run_all(&WRONG.iter().map(|&wrong| (wrong, Box::new(notice) as Work)).collect::<Vec<_>>());
-    let missed: Vec<&Wrong> = WRONG.iter().zip(&wrong).filter(|(_, done)| done.differences == 0).map(|(wrong, _)| wrong).collect();
+    let parts: Vec<(Wrong, Work)> =
+        WRONG.iter().map(|&(wrong, names)| (wrong, Box::new(move |c: &mut _| notice(c, names)) as Work)).collect();
+    let outcomes = run_all(&parts);
+    let missed = WRONG.iter().zip(&outcomes).filter(|((_, names), done)| !noticed(&done.tallies, names));
+    let missed: Vec<Wrong> = missed.map(|(&(wrong, _), _)| wrong).collect();
     println!("wrong references: {} of {} noticed", WRONG.len() - missed.len(), WRONG.len());
     missed.iter().for_each(|wrong| println!("NOT NOTICED: {wrong:?}"));
 

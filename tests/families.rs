@@ -1,8 +1,8 @@
-//! The finder against the plain rule on the families of bench/books.hpp and on costs at both ends of the range: as they are, with ties, and
-//! spoilt by one cost or by pairs that are missing. Lots and calls differ in number.
+//! The finder against the plain rule on the families of bench/books.hpp and on costs at both ends of the range: as they are, with ties,
+//! with a call that costs all lots the same, and spoilt by one cost or by pairs that are missing. Lots and calls differ in number.
 use crate::files::{amounts_file, book_file};
 use crate::library::Comparison;
-use crate::samples::{amounts, pairs, permuted, Costs, Random};
+use crate::samples::{amounts, even, pairs, permuted, Costs, Random};
 
 const COST_LIMIT: u64 = 1_000_000;
 
@@ -28,6 +28,7 @@ enum Change {
     ToTheLimit,
     EqualLots,
     EqualCalls,
+    OneCallEven,
     OneCostTooHigh,
     OneCostAnything,
     SomeCostsAnything,
@@ -35,12 +36,13 @@ enum Change {
     OneCallLeft,
 }
 
-const CHANGES: [Change; 10] = [
+const CHANGES: [Change; 11] = [
     Change::Nothing,
     Change::FromZero,
     Change::ToTheLimit,
     Change::EqualLots,
     Change::EqualCalls,
+    Change::OneCallEven,
     Change::OneCostTooHigh,
     Change::OneCostAnything,
     Change::SomeCostsAnything,
@@ -150,6 +152,7 @@ fn change(random: &mut Random, change: Change, costs: &mut Costs) {
         Change::ToTheLimit => spread(costs, true),
         Change::EqualLots => costs[lot] = costs[lot.saturating_sub(1)].clone(),
         Change::EqualCalls => costs.iter_mut().for_each(|row| row[call] = row[call.saturating_sub(1)]),
+        Change::OneCallEven => even(random, costs),
         Change::OneCostTooHigh => raise(random, costs),
         Change::OneCostAnything => anything(random, costs, 1),
         Change::SomeCostsAnything => anything(random, costs, 4),

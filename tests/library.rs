@@ -1,11 +1,13 @@
 //! The C library called as C calls it, each reply and each buffer held against the reference. Every slice handed over ends where an
 //! inaccessible page begins, and has a strip of known bytes before it.
-use crate::placing::Run;
-use crate::reference::{Refused, Wrong};
+use crate::placing::{Run, Verdict};
+use crate::reference::Refused;
 use crate::sys::{
-    placer_check_order, placer_find_and_run, placer_find_order, placer_lot_costs, placer_pair_cost, placer_read_amounts, placer_read_book,
-    placer_run_order, Reply,
+    placer_check_order, placer_find_and_run, placer_find_and_run_idle, placer_find_order, placer_lot_costs, placer_pair_cost,
+    placer_read_amounts, placer_read_book, placer_run_order, Reply,
 };
+use crate::wrong::Wrong;
+use std::collections::BTreeMap;
 use std::ffi::c_void;
 
 extern "C" {
@@ -66,15 +68,34 @@ struct Lent<'a> {
 
 type Part<T> = (*mut T, usize);
 
-/// The library against the reference, or against a wrong one.
-pub struct Comparison {
-    pub wrong: Wrong,
+/// A run that finds its order itself: its name, the reference's and the library's.
+pub struct Finding {
+    pub name: &'static str,
+    reference: fn(Wrong, &[u8], &[u8], &[u32]) -> Result<Run, Refused>,
+    export: unsafe extern "C" fn(*const u8, usize, *const u8, usize, *mut u32, usize) -> Reply,
+}
+
+pub const PLAIN: Finding = Finding { name: "find_and_run", reference: Wrong::find_and_run, export: placer_find_and_run };
+pub const IDLE: Finding = Finding { name: "find_and_run_idle", reference: Wrong::find_and_run_idle, export: placer_find_and_run_idle };
+
+/// How many cases there were, and how many of them differed.
+#[derive(Default)]
+pub struct Tally {
     pub cases: u64,
     pub differences: u64,
     /// How often each number was expected; 0 is an accepted input.
-    pub numbers: [u64; 18],
+    pub numbers: [u64; 20],
     /// How often each verdict was expected; 0 is no run.
     pub verdicts: [u64; 4],
+}
+
+/// Tallies by the name of the entry point; those of other cases have none.
+pub type Tallies = BTreeMap<&'static str, Tally>;
+
+/// The library against the reference, or against a wrong one.
+pub struct Comparison {
+    pub wrong: Wrong,
+    pub tallies: Tallies,
     book: Guarded,
     order: Guarded,
     amounts: Guarded,
@@ -91,26 +112,39 @@ fn reply(answer: Result<(u32, Vec<u64>), Refused>) -> Reply {
     Reply { number, verdict, values }
 }
 
+pub fn refusal(number: u32) -> Reply {
+    reply(Err((number, Vec::new())))
+}
+
+pub fn accepted(verdict: Verdict, units: u64, cost: u64) -> Reply {
+    reply(Ok((verdict as u32, vec![units, cost])))
+}
+
 impl Comparison {
     pub fn new(wrong: Wrong) -> Comparison {
         let room = |bytes| Guarded::new(bytes);
         let (book, order, amounts, flow) = (room(20_000), room(140_000), room(8_000), room(8_000));
-        Comparison { wrong, cases: 0, differences: 0, numbers: [0; 18], verdicts: [0; 4], book, order, amounts, flow }
+        Comparison { wrong, tallies: Tallies::new(), book, order, amounts, flow }
     }
 
-    pub fn count(&mut self, same: bool, what: impl Fn() -> String) {
-        self.cases += 1;
-        if !same {
-            self.differences += 1;
-            if self.wrong == Wrong::Nothing && self.differences <= 5 {
-                eprintln!("difference: {}", what());
-            }
+    fn tally(&mut self, name: &'static str, same: bool, what: impl Fn() -> String) -> &mut Tally {
+        let tally = self.tallies.entry(name).or_default();
+        tally.cases += 1;
+        tally.differences += !same as u64;
+        if !same && self.wrong == Wrong::Nothing && tally.differences <= 5 {
+            eprintln!("difference: {}", what());
         }
+        tally
+    }
+
+    /// A case of no entry point by itself.
+    pub fn count(&mut self, same: bool, what: impl Fn() -> String) {
+        self.tally("", same, what);
     }
 
     fn compare(
         &mut self,
-        name: &str,
+        name: &'static str,
         lent: Lent,
         expected: Reply,
         after: Lent,
@@ -118,14 +152,15 @@ impl Comparison {
     ) {
         let parts = (self.book.put(lent.book), self.order.put(lent.order), self.amounts.put(lent.amounts), self.flow.put(lent.flow));
         let got = call(parts.0, parts.1, parts.2, parts.3);
-        self.numbers[expected.number as usize] += 1;
-        self.verdicts[expected.verdict as usize] += 1;
         let same = got == expected
             && self.book.holds(after.book)
             && self.order.holds(after.order)
             && self.amounts.holds(after.amounts)
             && self.flow.holds(after.flow);
-        self.count(same, || format!("{name}\n  lent {lent:?}\n  got {got:?}\n  expected {expected:?} and {after:?}"));
+        let what = || format!("{name}\n  lent {lent:?}\n  got {got:?}\n  expected {expected:?} and {after:?}");
+        let tally = self.tally(name, same, what);
+        tally.numbers[expected.number as usize] += 1;
+        tally.verdicts[expected.verdict as usize] += 1;
     }
 
     pub fn read_book(&mut self, book: &[u8]) {
@@ -174,7 +209,7 @@ impl Comparison {
 
     fn compare_run(
         &mut self,
-        name: &str,
+        name: &'static str,
         lent: Lent,
         run: Result<Run, Refused>,
         call: impl Fn(Part<u8>, Part<u8>, Part<u8>, Part<u32>) -> Reply,
@@ -193,15 +228,18 @@ impl Comparison {
         });
     }
 
+    /// Each run that finds its order itself.
     pub fn find_and_run(&mut self, book: &[u8], amounts: &[u8], flow: &[u32]) {
-        let run = self.wrong.find_and_run(book, amounts, flow);
-        self.compare_run("find_and_run", Lent { book, amounts, flow, ..Lent::default() }, run, |b, _, a, f| unsafe {
-            placer_find_and_run(b.0, b.1, a.0, a.1, f.0, f.1)
-        });
+        for Finding { name, reference, export } in [PLAIN, IDLE] {
+            let run = reference(self.wrong, book, amounts, flow);
+            self.compare_run(name, Lent { book, amounts, flow, ..Lent::default() }, run, |b, _, a, f| unsafe {
+                export(b.0, b.1, a.0, a.1, f.0, f.1)
+            });
+        }
     }
 }
 
-/// The library's own answers, for the checks that do not compare: an order's file, whether an order passes, and the two runs.
+/// The library's own answers, for the checks that do not compare: an order's file, whether an order passes, and the runs.
 pub fn found(book: &[u8]) -> Option<Vec<u8>> {
     let mut order = vec![0; 2055];
     let got = unsafe { placer_find_order(book.as_ptr(), book.len(), order.as_mut_ptr(), order.len()) };
@@ -219,7 +257,8 @@ pub fn run(book: &[u8], order: &[u8], amounts: &[u8]) -> Reply {
     unsafe { placer_run_order(b, book.len(), o, order.len(), a, amounts.len(), flow.as_mut_ptr(), flow.len()) }
 }
 
-pub fn find_and_run(book: &[u8], amounts: &[u8]) -> Reply {
-    let mut flow = [0; 1024];
-    unsafe { placer_find_and_run(book.as_ptr(), book.len(), amounts.as_ptr(), amounts.len(), flow.as_mut_ptr(), flow.len()) }
+impl Finding {
+    pub fn run(&self, book: &[u8], amounts: &[u8], flow: &mut [u32]) -> Reply {
+        unsafe { (self.export)(book.as_ptr(), book.len(), amounts.as_ptr(), amounts.len(), flow.as_mut_ptr(), flow.len()) }
+    }
 }

@@ -1,8 +1,9 @@
 //! The printing program, run in a folder of its own and held to the reference's text.
 use crate::files::{amounts_file, book_file};
+use crate::known::{known_runs, one_unit};
 use crate::library::Comparison;
-use crate::reference::Wrong;
-use crate::samples::{amounts, costs, known_runs, one_unit, stored_books, Random, KINDS};
+use crate::samples::{amounts, costs, stored_books, Random, KINDS};
+use crate::wrong::Wrong;
 use std::fs;
 use std::io::Write;
 use std::path::Path;

@@ -1,47 +1,6 @@
-//! Document 01, as the requests amend it, a second time and plainly: each sentence in the obvious way, however slow. Written from the
-//! documents and the paper alone. Each `Wrong` is a deliberate error that the comparison has to notice.
-
-macro_rules! wrong {
-    ($($name:ident)*) => {
-        /// An error to make on purpose, or none.
-        #[derive(Clone, Copy, Debug, PartialEq)]
-        pub enum Wrong { Nothing, $($name),* }
-
-        pub const WRONG: &[Wrong] = &[$(Wrong::$name),*];
-    };
-}
-
-wrong! {
-    StrictSum
-    OnlyLaterLotsAndCalls
-    MissingPairCostsNothing
-    FailureByCallThenLot
-    TakenPairNotEligible
-    HighestPairFirst
-    CheapestPairFirst
-    FullWhenCallsMet
-    CoveredWhenNothingIsLeft
-    CoveredWhenACallLacks
-    CoveredByTotals
-    ShortWhenLotsAreLeft
-    CostOfEachPairOnce
-    IneligibleEntriesKept
-    NoOrderBeforeShortBuffer
-    AmountsBeforeOrder
-    CostsOneByOne
-    PositionForCall
-    LimitExcluded
-    MarkBeforeLength
-    VersionByteAlone
-    LengthAfterAmounts
-    FirstPlaceOfPairMetTwice
-    MissingPairAfterCheck
-    CountForLength
-    StretchWithWord
-    EmptyStretchAtRow
-    PairTurnedRound
-    NotEligibleCostsNothing
-}
+//! The documents a second time and plainly, document 01 as the requests amend it: each sentence in the obvious way, however slow. Written
+//! from the documents and the paper alone. Each `Wrong` is a deliberate error that the comparison has to notice.
+use crate::wrong::Wrong;
 
 /// A refusal: its number and its values.
 pub type Refused = (u32, Vec<u64>);

@@ -1,6 +1,5 @@
 //! Books, orders and amounts to try, from a fixed seed.
 use crate::files::book_file;
-use crate::placing::Verdict;
 use crate::reference::Pair;
 
 pub type Costs = Vec<Vec<Option<u64>>>;
@@ -58,10 +57,20 @@ pub enum Kind {
     Staircase,
     AtLimits,
     NearlyNothing,
+    OneCallEven,
 }
 
-pub const KINDS: [Kind; 8] =
-    [Kind::Dense, Kind::Sparse, Kind::Monge, Kind::Permuted, Kind::SumWithGaps, Kind::Staircase, Kind::AtLimits, Kind::NearlyNothing];
+pub const KINDS: [Kind; 9] = [
+    Kind::Dense,
+    Kind::Sparse,
+    Kind::Monge,
+    Kind::Permuted,
+    Kind::SumWithGaps,
+    Kind::Staircase,
+    Kind::AtLimits,
+    Kind::NearlyNothing,
+    Kind::OneCallEven,
+];
 
 /// Costs a_i + b_j - w i j, raised so that none is negative: lot by lot and call by call they are a Monge array.
 fn monge(random: &mut Random, lots: usize, calls: usize) -> Costs {
@@ -77,6 +86,23 @@ pub fn permuted(random: &mut Random, mut costs: Costs) -> Costs {
     costs.iter().map(|row| columns.iter().map(|&j| row[j]).collect()).collect()
 }
 
+fn permuted_monge(random: &mut Random, lots: usize, calls: usize) -> Costs {
+    let costs = monge(random, lots, calls);
+    permuted(random, costs)
+}
+
+/// Moves each lot's costs by as much as makes one call cost all its lots the same, and all costs so that the least is 0. Differences
+/// within a lot stay, so an order stays one; and an idle call is like that call. A book whose costs would exceed the limit stays.
+pub fn even(random: &mut Random, costs: &mut Costs) {
+    let call = random.below(costs[0].len() as u64) as usize;
+    let moved = |row: &Vec<Option<u64>>, cost: u64| 1_000_000 + cost - row[call].unwrap_or(0);
+    let each = || costs.iter().flat_map(|row| row.iter().flatten().map(|&cost| moved(row, cost)));
+    let (least, greatest) = (each().min().unwrap_or(0), each().max().unwrap_or(0));
+    if greatest - least <= 1_000_000 {
+        *costs = costs.iter().map(|row| row.iter().map(|cost| cost.map(|cost| moved(row, cost) - least)).collect()).collect();
+    }
+}
+
 pub fn costs(random: &mut Random, kind: Kind, lots: usize, calls: usize) -> Costs {
     let mut each = |cell: &mut dyn FnMut(&mut Random) -> Option<u64>| -> Costs {
         (0..lots).map(|_| (0..calls).map(|_| cell(random)).collect()).collect()
@@ -87,10 +113,7 @@ pub fn costs(random: &mut Random, kind: Kind, lots: usize, calls: usize) -> Cost
         Kind::AtLimits => each(&mut |r| r.chance(90).then(|| r.pick(&[0, 1, 999_999, 1_000_000]))),
         Kind::NearlyNothing => each(&mut |r| r.chance(3).then(|| r.below(3))),
         Kind::Monge => monge(random, lots, calls),
-        Kind::Permuted => {
-            let costs = monge(random, lots, calls);
-            permuted(random, costs)
-        }
+        Kind::Permuted => permuted_monge(random, lots, calls),
         Kind::SumWithGaps => {
             let (a, b) = (random.numbers(lots, 20), random.numbers(calls, 20));
             let percent = random.pick(&[80, 95]);
@@ -105,14 +128,23 @@ pub fn costs(random: &mut Random, kind: Kind, lots: usize, calls: usize) -> Cost
             }
             permuted(random, costs)
         }
+        Kind::OneCallEven => {
+            let mut costs = permuted_monge(random, lots, calls);
+            even(random, &mut costs);
+            costs
+        }
     }
 }
 
-/// Amounts for a book: few units, at the limits, or those of some allocation, so that all can be met; a unit more at times.
+/// Amounts for a book: few units or none, at the limits, or those of some allocation, so that all can be met; at times with a unit more, or
+/// with stock to spare.
 pub fn amounts(random: &mut Random, costs: &Costs) -> Vec<u64> {
     let (lots, calls) = (costs.len(), costs[0].len());
-    match random.below(4) {
-        0 => random.numbers(lots + calls, 4),
+    match random.below(5) {
+        0 => {
+            let bound = random.pick(&[1, 4, 4, 4]);
+            random.numbers(lots + calls, bound)
+        }
         1 => (0..lots + calls).map(|_| random.pick(&[0, 1, 999_999_999, 1_000_000_000])).collect(),
         kind => {
             let mut amounts = vec![0; lots + calls];
@@ -126,6 +158,9 @@ pub fn amounts(random: &mut Random, costs: &Costs) -> Vec<u64> {
             if kind == 3 {
                 let at = random.below((lots + calls) as u64) as usize;
                 amounts[at] += 1;
+            }
+            if kind == 4 {
+                amounts[..lots].iter_mut().for_each(|units| *units += random.pick(&[0, 0, 1, 7, 900_000_000]));
             }
             amounts
         }
@@ -191,7 +226,7 @@ fn damaged_twice(file: &[u8]) -> impl Iterator<Item = Vec<u8>> + '_ {
 }
 
 /// A book by rows of costs, -1 where a pair is not eligible.
-fn rows(rows: &[&[i64]]) -> Costs {
+pub fn rows(rows: &[&[i64]]) -> Costs {
     rows.iter().map(|row| row.iter().map(|&cost| u64::try_from(cost).ok()).collect()).collect()
 }
 
@@ -208,51 +243,4 @@ pub fn stored_books() -> Vec<Vec<u8>> {
         book_file(&vec![(0..32).map(Some).collect(); 1]),
         book_file(&vec![vec![Some(5)]; 32]),
     ]
-}
-
-/// A book, amounts, and what finding and running comes to: verdict, units, cost.
-pub type Known = (Costs, Vec<u64>, (Verdict, u64, u64));
-
-/// F1, F7, F8, F10, F11 and F12 of document 01. Then: a call lacks and a lot has units left at once, with equal totals and with each the
-/// larger; neither, and only the one or the other; costs above the least, which is promised for Full alone; 2 to the 32 units in all left,
-/// and lacking.
-pub fn known_runs() -> Vec<Known> {
-    let (cross, corner, billion) = (rows(&[&[0, -1], &[-1, 0]]), rows(&[&[0, 0], &[0, -1]]), 1_000_000_000);
-    let many = [billion, billion, billion, billion, 294_967_296];
-    vec![
-        (rows(&[&[1, 2], &[3, 5]]), vec![5, 4, 3, 6], (Verdict::Full, 9, 24)),
-        (corner.clone(), vec![1, 1, 1, 1], (Verdict::Full, 2, 0)),
-        (corner, vec![2, 0, 1, 0], (Verdict::Covered, 1, 0)),
-        (rows(&[&[-1]]), vec![1, 1], (Verdict::Short, 0, 0)),
-        (rows(&[&[-1]]), vec![0, 0], (Verdict::Full, 0, 0)),
-        (rows(&[&[1_000_000]]), vec![billion, billion], (Verdict::Full, billion, 1_000_000 * billion)),
-        (cross.clone(), vec![2, 0, 1, 1], (Verdict::Short, 1, 0)),
-        (cross.clone(), vec![5, 0, 1, 1], (Verdict::Short, 1, 0)),
-        (cross.clone(), vec![2, 0, 1, 3], (Verdict::Short, 1, 0)),
-        (cross.clone(), vec![0, 0, 0, 0], (Verdict::Full, 0, 0)),
-        (cross.clone(), vec![0, 1, 0, 0], (Verdict::Covered, 0, 0)),
-        (cross, vec![0, 0, 0, 1], (Verdict::Short, 0, 0)),
-        (rows(&[&[-1]]), vec![1, 0], (Verdict::Covered, 0, 0)),
-        (rows(&[&[7]]), vec![billion, billion - 1], (Verdict::Covered, billion - 1, 7 * (billion - 1))),
-        (rows(&[&[7]]), vec![billion - 1, billion], (Verdict::Short, billion - 1, 7 * (billion - 1))),
-        (rows(&[&[5], &[1]]), vec![1, 1, 1], (Verdict::Covered, 1, 5)),
-        (rows(&[&[5, 1]]), vec![1, 1, 1], (Verdict::Short, 1, 5)),
-        (vec![vec![Some(0)]; 5], [&many[..], &[0]].concat(), (Verdict::Covered, 0, 0)),
-        (vec![vec![Some(0); 5]], [&[0][..], &many].concat(), (Verdict::Short, 0, 0)),
-    ]
-}
-
-/// One unit at each lot and call in turn, and no other: a lot has it left, or a call lacks it. Lot k is eligible for call k alone.
-pub fn one_unit() -> Vec<Known> {
-    let mut runs = Vec::new();
-    for (lots, calls) in [(2, 3), (1, 32), (32, 1), (32, 32)] {
-        let costs: Costs = (0..lots).map(|i| (0..calls).map(|j| (i == j).then_some(1)).collect()).collect();
-        for at in 0..lots + calls {
-            let mut amounts = vec![0; lots + calls];
-            amounts[at] = 1;
-            let verdict = if at < lots { Verdict::Covered } else { Verdict::Short };
-            runs.push((costs.clone(), amounts, (verdict, 0, 0)));
-        }
-    }
-    runs
 }

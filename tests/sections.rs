@@ -1,14 +1,14 @@
 //! What is tried, in sections. Each calls the library by a `Comparison`.
 use crate::files::{amounts_file, book_file, order_file};
-use crate::library::{find_and_run, run, Comparison};
-use crate::reference::{Pair, Wrong};
-use crate::samples::{all, all_books, amounts, costs, damaged, known_runs, one_unit, pairs, permutations, Costs, Kind, Random, KINDS};
-use crate::sys::Reply;
+use crate::library::Comparison;
+use crate::reference::Pair;
+use crate::samples::{all, all_books, amounts, costs, damaged, pairs, permutations, Costs, Kind, Random, KINDS};
+use crate::wrong::Wrong;
 
 const FAR: [usize; 6] = [32, 255, 256, 1 << 32, (1 << 32) + 1, usize::MAX];
 
 /// An order of the book, or of its pairs as they stand where there is none.
-fn some_order(costs: &Costs) -> Vec<Pair> {
+pub fn some_order(costs: &Costs) -> Vec<Pair> {
     Wrong::Nothing.read_book(&book_file(costs)).ok().and_then(|book| Wrong::Nothing.find(&book)).unwrap_or_else(|| pairs(costs))
 }
 
@@ -106,9 +106,7 @@ fn random_book(c: &mut Comparison, random: &mut Random, kind: Kind, lots: usize,
         c.check_order(&book, &order);
         c.read_amounts(&book, &amounts);
         c.run_order(&book, &order, &amounts, &flow);
-        if turn < 2 {
-            c.find_and_run(&book, &amounts, &flow);
-        }
+        c.find_and_run(&book, &amounts, &flow);
     }
 }
 
@@ -136,7 +134,8 @@ pub fn damage(c: &mut Comparison, books: &[Vec<u8>]) {
         let (lots, calls) = (book[5] as usize, book[6] as usize);
         let costs = Wrong::Nothing.read_book(book).unwrap_or_else(|_| unreachable!()).costs;
         let order = order_file(&some_order(&costs));
-        let amounts = amounts_file(lots, calls, &random.numbers(lots + calls, 5));
+        let (stock, wanted) = (random.numbers(lots, 5), random.numbers(calls, 5));
+        let amounts = amounts_file(lots, calls, &stock.iter().map(|units| units + 4).chain(wanted).collect::<Vec<_>>());
         let flow = random.entries(lots * calls + 2);
         for book in damaged(book) {
             read_and_find(c, random, &book, [7 + 2 * lots * calls].into_iter());
@@ -163,7 +162,28 @@ pub fn damage(c: &mut Comparison, books: &[Vec<u8>]) {
     }
 }
 
-/// Costs and amounts at their limits, each in turn, and the largest book.
+/// The largest books with so many calls: every amount at its limit, and only those of the lots.
+fn largest(c: &mut Comparison, random: &mut Random, calls: usize) {
+    let most = vec![vec![Some(1_000_000); calls]; 32];
+    let (book, order) = (book_file(&most), order_file(&pairs(&most)));
+    for wanted in [1_000_000_000, 0] {
+        let amounts = amounts_file(32, calls, &[vec![1_000_000_000; 32], vec![wanted; calls]].concat());
+        for length in [32 * calls - 2, 32 * calls - 1, 32 * calls, 32 * calls + 1, 1500] {
+            let flow = random.entries(length);
+            c.run_order(&book, &order, &amounts, &flow);
+            c.find_and_run(&book, &amounts, &flow);
+        }
+        for more in [1, 2, 1000, 4300] {
+            c.read_book(&[&book[..], &vec![0; more]].concat());
+            c.read_amounts(&book, &[&amounts[..], &vec![0; more]].concat());
+        }
+    }
+    let length = order.len();
+    read_and_find(c, random, &book, length - 2..length + 3);
+    all_pairs(c, &book);
+}
+
+/// Costs and amounts at their limits, each in turn, and the largest books.
 pub fn limits(c: &mut Comparison) {
     let random = &mut Random(4);
     for (lots, calls) in [(1, 1), (2, 3), (1, 32), (32, 1)] {
@@ -183,37 +203,14 @@ pub fn limits(c: &mut Comparison) {
                 amounts[at] = amount;
                 let amounts = amounts_file(lots, calls, &amounts);
                 c.read_amounts(&book_file(&zeros), &amounts);
-                c.run_order(&book_file(&zeros), &order, &amounts, &random.entries(lots * calls));
+                let flow = random.entries(lots * calls);
+                c.run_order(&book_file(&zeros), &order, &amounts, &flow);
+                c.find_and_run(&book_file(&zeros), &amounts, &flow);
             }
         }
     }
-    let most = vec![vec![Some(1_000_000); 32]; 32];
-    let book = book_file(&most);
-    let order = order_file(&pairs(&most));
-    let amounts = amounts_file(32, 32, &[1_000_000_000; 64]);
-    for length in [1022, 1023, 1024, 1025, 1500] {
-        c.run_order(&book, &order, &amounts, &random.entries(length));
-        c.find_and_run(&book, &amounts, &random.entries(length));
-    }
-    read_and_find(c, random, &book, 2053..2058);
-    all_pairs(c, &book);
-    for more in [1, 2, 1000, 4300] {
-        c.read_book(&[&book[..], &vec![0; more]].concat());
-        c.read_amounts(&book, &[&amounts[..], &vec![0; more]].concat());
-    }
-}
-
-/// Runs whose replies are known: the reference and the library are held to them.
-pub fn known(c: &mut Comparison) {
-    for (costs, amounts, (verdict, units, cost)) in known_runs().into_iter().chain(one_unit()) {
-        let (lots, calls, book) = (costs.len(), costs[0].len(), book_file(&costs));
-        let (order, amounts) = (order_file(&some_order(&costs)), amounts_file(lots, calls, &amounts));
-        c.find_and_run(&book, &amounts, &vec![9; lots * calls + 1]);
-        c.run_order(&book, &order, &amounts, &vec![9; lots * calls + 1]);
-        let reply = Reply { number: 0, verdict: verdict as u32, values: [units, cost, 0, 0] };
-        let got = [find_and_run(&book, &amounts), run(&book, &order, &amounts)];
-        c.count(got == [reply; 2], || format!("{costs:?} with {amounts:?}: {got:?}, known {reply:?}"));
-    }
+    largest(c, random, 31);
+    largest(c, random, 32);
 }
 
 /// Order files of many pairs: repeated, outside after a whole order, and absent.

@@ -1,0 +1,153 @@
+//! Runs whose replies are known: the reference and the library are held to them.
+use crate::files::{amounts_file, book_file, order_file};
+use crate::library::{accepted, refusal, run, Comparison, IDLE, PLAIN};
+use crate::placing::Verdict;
+use crate::samples::{rows, Costs};
+use crate::sections::some_order;
+use crate::sys::Reply;
+
+const BILLION: u64 = 1_000_000_000;
+
+/// A book with an order whose enlarged book has none. With costs 0 and 1 there is no smaller one.
+fn no_idle_order() -> Costs {
+    rows(&[&[-1, 1], &[0, 0], &[1, -1]])
+}
+
+/// A book, amounts, and what finding and running comes to: verdict, units, cost.
+pub type Known = (Costs, Vec<u64>, (Verdict, u64, u64));
+
+/// F1, F7, F8, F10, F11 and F12 of document 01. Then: a call lacks and a lot has units left at once, with equal totals and with each the
+/// larger; neither, and only the one or the other; costs above the least, which is promised for Full alone; a book that has no order
+/// with an idle call; 2 to the 32 units in all left, and lacking.
+pub fn known_runs() -> Vec<Known> {
+    let (cross, corner) = (rows(&[&[0, -1], &[-1, 0]]), rows(&[&[0, 0], &[0, -1]]));
+    let many = [BILLION, BILLION, BILLION, BILLION, 294_967_296];
+    vec![
+        (rows(&[&[1, 2], &[3, 5]]), vec![5, 4, 3, 6], (Verdict::Full, 9, 24)),
+        (corner.clone(), vec![1, 1, 1, 1], (Verdict::Full, 2, 0)),
+        (corner, vec![2, 0, 1, 0], (Verdict::Covered, 1, 0)),
+        (rows(&[&[-1]]), vec![1, 1], (Verdict::Short, 0, 0)),
+        (rows(&[&[-1]]), vec![0, 0], (Verdict::Full, 0, 0)),
+        (rows(&[&[1_000_000]]), vec![BILLION, BILLION], (Verdict::Full, BILLION, 1_000_000 * BILLION)),
+        (cross.clone(), vec![2, 0, 1, 1], (Verdict::Short, 1, 0)),
+        (cross.clone(), vec![5, 0, 1, 1], (Verdict::Short, 1, 0)),
+        (cross.clone(), vec![2, 0, 1, 3], (Verdict::Short, 1, 0)),
+        (cross.clone(), vec![0, 0, 0, 0], (Verdict::Full, 0, 0)),
+        (cross.clone(), vec![0, 1, 0, 0], (Verdict::Covered, 0, 0)),
+        (cross, vec![0, 0, 0, 1], (Verdict::Short, 0, 0)),
+        (rows(&[&[-1]]), vec![1, 0], (Verdict::Covered, 0, 0)),
+        (rows(&[&[7]]), vec![BILLION, BILLION - 1], (Verdict::Covered, BILLION - 1, 7 * (BILLION - 1))),
+        (rows(&[&[7]]), vec![BILLION - 1, BILLION], (Verdict::Short, BILLION - 1, 7 * (BILLION - 1))),
+        (rows(&[&[5], &[1]]), vec![1, 1, 1], (Verdict::Covered, 1, 5)),
+        (rows(&[&[5, 1]]), vec![1, 1, 1], (Verdict::Short, 1, 5)),
+        (no_idle_order(), vec![1, 1, 1, 1, 1], (Verdict::Covered, 2, 1)),
+        (vec![vec![Some(0)]; 5], [&many[..], &[0]].concat(), (Verdict::Covered, 0, 0)),
+        (vec![vec![Some(0); 5]], [&[0][..], &many].concat(), (Verdict::Short, 0, 0)),
+    ]
+}
+
+/// One unit at each lot and call in turn, and no other: a lot has it left, or a call lacks it. Lot k is eligible for call k alone.
+pub fn one_unit() -> Vec<Known> {
+    let mut runs = Vec::new();
+    for (lots, calls) in [(2, 3), (1, 32), (32, 1), (32, 32)] {
+        let costs: Costs = (0..lots).map(|i| (0..calls).map(|j| (i == j).then_some(1)).collect()).collect();
+        for at in 0..lots + calls {
+            let mut amounts = vec![0; lots + calls];
+            amounts[at] = 1;
+            let verdict = if at < lots { Verdict::Covered } else { Verdict::Short };
+            runs.push((costs.clone(), amounts, (verdict, 0, 0)));
+        }
+    }
+    runs
+}
+
+/// Runs with an idle call, and the entries they write. Equal totals, where nothing is idle; stock to spare, where the choice of what is
+/// idle is the cheapest, and of equal ones that of the lowest lot, the idle call being the last; lots for which no real call is eligible;
+/// a call that lacks; idle amounts and totals above 32 bits.
+fn idle_runs() -> Vec<(Known, Vec<u32>)> {
+    let (f1, corner, cross, none) = (rows(&[&[1, 2], &[3, 5]]), rows(&[&[0, 0], &[0, -1]]), rows(&[&[0, -1], &[-1, 0]]), rows(&[&[-1]]));
+    let (falling, zeros) = ((0..6).map(|i| vec![Some(6 - i)]).collect(), vec![vec![Some(0); 4]; 5]);
+    let at_each = |step: usize, count: usize| -> Vec<u32> { (0..count).map(|k| if k % step == 0 { 1_000_000_000 } else { 0 }).collect() };
+    vec![
+        ((f1.clone(), vec![5, 4, 3, 6], (Verdict::Full, 9, 24)), vec![0, 5, 3, 1]),
+        ((f1.clone(), vec![0, 0, 0, 0], (Verdict::Full, 0, 0)), vec![0; 4]),
+        ((f1, vec![5, 4, 3, 4], (Verdict::Covered, 7, 15)), vec![1, 4, 2, 0]),
+        ((corner.clone(), vec![1, 1, 1, 1], (Verdict::Full, 2, 0)), vec![0, 1, 1, 0]),
+        ((corner, vec![2, 0, 1, 0], (Verdict::Covered, 1, 0)), vec![1, 0, 0, 0]),
+        ((none.clone(), vec![1, 1], (Verdict::Short, 0, 0)), vec![0]),
+        ((none.clone(), vec![0, 0], (Verdict::Full, 0, 0)), vec![0]),
+        ((none, vec![1, 0], (Verdict::Covered, 0, 0)), vec![0]),
+        ((rows(&[&[1_000_000]]), vec![BILLION, BILLION], (Verdict::Full, BILLION, 1_000_000 * BILLION)), vec![1_000_000_000]),
+        ((rows(&[&[5], &[1]]), vec![1, 1, 2], (Verdict::Full, 2, 6)), vec![1, 1]),
+        ((rows(&[&[5], &[1]]), vec![1, 1, 1], (Verdict::Covered, 1, 1)), vec![0, 1]),
+        ((rows(&[&[0], &[0]]), vec![1, 1, 1], (Verdict::Covered, 1, 0)), vec![1, 0]),
+        ((rows(&[&[-1], &[5], &[1]]), vec![1, 1, 1, 1], (Verdict::Covered, 1, 1)), vec![0, 0, 1]),
+        ((rows(&[&[5], &[1], &[-1]]), vec![1, 1, 5, 2], (Verdict::Covered, 2, 6)), vec![1, 1, 0]),
+        ((cross, vec![5, 0, 1, 1], (Verdict::Short, 1, 0)), vec![1, 0, 0, 0]),
+        ((vec![vec![Some(0)]; 32], [vec![BILLION; 32], vec![0]].concat(), (Verdict::Covered, 0, 0)), vec![0; 32]),
+        ((vec![vec![Some(0); 31]; 32], [vec![BILLION; 32], vec![0; 31]].concat(), (Verdict::Covered, 0, 0)), vec![0; 32 * 31]),
+        ((falling, vec![BILLION; 7], (Verdict::Covered, BILLION, BILLION)), vec![0, 0, 0, 0, 0, 1_000_000_000]),
+        ((zeros, vec![BILLION; 9], (Verdict::Covered, 4 * BILLION, 0)), at_each(5, 20)),
+        ((vec![vec![Some(1); 5]; 5], vec![BILLION; 10], (Verdict::Full, 5 * BILLION, 5 * BILLION)), at_each(6, 25)),
+    ]
+}
+
+/// Runs with an idle call that are refused: book, amounts, entries of the flow buffer, number. Of several causes the first; the enlarged
+/// book without an order; totals that differ by one unit, and above 32 bits.
+fn idle_refused() -> Vec<(Costs, Vec<u64>, usize, u32)> {
+    let wide = |calls: usize| -> Costs { (0..3).map(|i| (0..calls).map(|j| (j < 3 && i != j).then_some(0)).collect()).collect() };
+    let amounts = |calls: usize, last: u64| [vec![0; 2 + calls], vec![last]].concat();
+    vec![
+        (wide(32), amounts(32, BILLION + 1), 95, 16),
+        (wide(32), amounts(32, 1), 95, 18),
+        (wide(32), amounts(32, 0), 95, 19),
+        (wide(32), amounts(32, 0), 96, 19),
+        (wide(31), amounts(31, 1), 92, 18),
+        (wide(31), amounts(31, 0), 92, 17),
+        (wide(31), amounts(31, 0), 93, 13),
+        (wide(3), vec![1; 6], 9, 13),
+        (no_idle_order(), vec![1, 1, 1, 1, 1], 6, 13),
+        (no_idle_order(), vec![0, 0, 0, 0, 0], 6, 13),
+        (no_idle_order(), vec![1, 1, 1, 1, 1], 5, 17),
+        (no_idle_order(), vec![1, 1, 1, 2, 2], 5, 18),
+        (rows(&[&[7]]), vec![BILLION - 1, BILLION], 1, 18),
+        (vec![vec![Some(0); 6]; 5], [vec![BILLION; 10], vec![1]].concat(), 30, 18),
+        (vec![vec![Some(0); 32]; 32], vec![BILLION; 64], 1024, 19),
+    ]
+}
+
+/// One reply of the run with an idle call, and the buffer, which held nines.
+fn one_idle(c: &mut Comparison, costs: &Costs, amounts: &[u64], entries: usize, reply: Reply, written: &[u32]) {
+    let (book, amounts) = (book_file(costs), amounts_file(costs.len(), costs[0].len(), amounts));
+    let (mut flow, mut after) = (vec![9; entries], vec![9; entries]);
+    c.find_and_run(&book, &amounts, &flow);
+    let got = IDLE.run(&book, &amounts, &mut flow);
+    after[..written.len()].copy_from_slice(written);
+    c.count(got == reply && flow == after, || format!("idle: {costs:?} with {amounts:?}: {got:?} {flow:?}, known {reply:?} {after:?}"));
+}
+
+/// The runs with an idle call, each with a buffer of just the length, a longer one, and one that lacks an entry.
+pub fn known_idle(c: &mut Comparison) {
+    for ((costs, amounts, (verdict, units, cost)), flow) in idle_runs() {
+        for more in [0, 1, 40] {
+            one_idle(c, &costs, &amounts, flow.len() + more, accepted(verdict, units, cost), &flow);
+        }
+        one_idle(c, &costs, &amounts, flow.len() - 1, refusal(17), &[]);
+    }
+    for (costs, amounts, entries, number) in idle_refused() {
+        one_idle(c, &costs, &amounts, entries, refusal(number), &[]);
+    }
+}
+
+/// The runs without an idle call.
+pub fn known(c: &mut Comparison) {
+    for (costs, amounts, (verdict, units, cost)) in known_runs().into_iter().chain(one_unit()) {
+        let (lots, calls, book) = (costs.len(), costs[0].len(), book_file(&costs));
+        let (order, amounts) = (order_file(&some_order(&costs)), amounts_file(lots, calls, &amounts));
+        c.find_and_run(&book, &amounts, &vec![9; lots * calls + 1]);
+        c.run_order(&book, &order, &amounts, &vec![9; lots * calls + 1]);
+        let reply = accepted(verdict, units, cost);
+        let got = [PLAIN.run(&book, &amounts, &mut [0; 1024]), run(&book, &order, &amounts)];
+        c.count(got == [reply; 2], || format!("{costs:?} with {amounts:?}: {got:?}, known {reply:?}"));
+    }
+}

@@ -1,0 +1,70 @@
+//! The deliberate errors of the reference, by the entry points in which they show.
+
+macro_rules! wrong {
+    ($($names:expr => $($wrong:ident)*;)*) => {
+        /// An error to make on purpose, or none.
+        #[derive(Clone, Copy, Debug, PartialEq)]
+        pub enum Wrong { Nothing, $($($wrong),*),* }
+
+        /// Each error, and the entry points that have to show it, each by itself.
+        pub const WRONG: &[(Wrong, &[&str])] = &[$($((Wrong::$wrong, $names)),*),*];
+    };
+}
+
+wrong! {
+    &[] =>
+    FailureByCallThenLot
+    AmountsBeforeOrder
+    FirstPlaceOfPairMetTwice
+    MissingPairAfterCheck
+    CountForLength
+    StretchWithWord
+    EmptyStretchAtRow
+    PairTurnedRound
+    NotEligibleCostsNothing;
+
+    &["find_and_run", "find_and_run_idle"] =>
+    StrictSum
+    OnlyLaterLotsAndCalls
+    MissingPairCostsNothing
+    TakenPairNotEligible
+    HighestPairFirst
+    CheapestPairFirst
+    FullWhenCallsMet
+    CoveredWhenNothingIsLeft
+    CoveredWhenACallLacks
+    CoveredByTotals
+    ShortWhenLotsAreLeft
+    CostOfEachPairOnce
+    IneligibleEntriesKept
+    NoOrderBeforeShortBuffer
+    CostsOneByOne
+    PositionForCall
+    LimitExcluded
+    MarkBeforeLength
+    VersionByteAlone
+    LengthAfterAmounts;
+
+    &["find_and_run_idle"] =>
+    TotalsBeforeAmountLimit
+    EqualTotalsRefused
+    TotalsIn32Bits
+    NoIdleCallBeforeAmounts
+    NoIdleCallBeforeTotals
+    NoIdleCallByLots
+    ShortBufferBeforeTotals
+    ShortBufferBeforeNoIdleCall
+    ShortBufferWithIdleCall
+    NoOrderOfBookItself
+    OrderOfBookItself
+    IdleCallFirst
+    IdlePairsFirst
+    IdleOnlyForLotsWithPairs
+    IdleCallGivenNothing
+    IdleAmountOfAllLots
+    IdleAmountIn32Bits
+    IdleAmountWithinLimit
+    IdleUnitsPlaced
+    FlowWithIdleCall
+    FullWhenIdleTakesTheRest;
+}
