@@ -1,5 +1,5 @@
-//! Compares the C library with an independent reference, and tries demand 3 and what the verdicts promise by brute force. The seed is
-//! fixed, so every run is the same. Parts run at the same time in several threads, as the library allows. The last line is
+//! Compares the C library with an independent reference, and tries demand 3, what the verdicts promise and request 2 by brute force. The
+//! seed is fixed, so every run is the same. Parts run at the same time in several threads, as the library allows. The last line is
 //! `tests: N cases, D differences`; the exit status is 0 only if D is 0, each number and each verdict came, and each wrong reference was
 //! noticed.
 mod demand3;
@@ -11,6 +11,7 @@ mod library;
 mod placing;
 mod program;
 mod reference;
+mod request2;
 mod samples;
 mod sections;
 #[path = "../bindings/rust/src/sys.rs"]
@@ -110,6 +111,7 @@ fn all_parts(path: &Path) -> Vec<(&str, Work<'_>)> {
         ("known runs with an idle call", Box::new(known::known_idle)),
         ("long orders", Box::new(sections::long_orders)),
         ("demand 3 and verdicts by brute force", Box::new(demand3::demand3)),
+        ("request 2 by brute force", Box::new(request2::request2)),
     ];
     match path.is_file() {
         true => parts.push(("printing program", Box::new(move |c| program::program(c, path)))),
