@@ -1,6 +1,7 @@
 /* Measures the stack that each call takes on the largest book, with an order that passes and with one that fails, and on that book less
- * one pair, which the finder searches in another way: the call runs in a thread whose stack was filled with a pattern. Fails if a call takes
- * more than the header says. bench/run puts the figures on its page. */
+ * one pair, which the finder searches in another way; the run with an idle call on the largest book that it takes, of 31 calls. The call
+ * runs in a thread whose stack was filled with a pattern. Fails if a call takes more than the header says. bench/run puts the figures on
+ * its page. */
 #define _GNU_SOURCE
 #include <pthread.h>
 #include <stdio.h>
@@ -9,37 +10,65 @@
 
 #include "placer.h"
 
-enum { SIZE = 1 << 20, PATTERN = 0xa5 };
+enum { SIZE = 1 << 20, PATTERN = 0xa5, LOTS = 32 };
 
-static uint8_t book[PLACER_BOOK_MAX] = "CLB\1\0\40\40", order[PLACER_ORDER_MAX] = "CLO\1\0\0\4",
-               amounts[PLACER_AMOUNTS_MAX] = "CLA\1\0\40\40", less_one[PLACER_BOOK_MAX - 4];
+/* A book and amounts for it. */
+struct desk {
+    uint8_t book[PLACER_BOOK_MAX], amounts[PLACER_AMOUNTS_MAX];
+    size_t book_len, amounts_len;
+};
+
+static struct desk largest, less_one, of_31, of_31_less_one;
+static const struct desk *on;
+static uint8_t order[PLACER_ORDER_MAX] = "CLO\1\0\0\4";
 static uint32_t flow[PLACER_FLOW_MAX];
 static placer_reply last;
 
-static void put(uint8_t *at, uint32_t value)
+static uint8_t *put(uint8_t *at, uint32_t value)
 {
     for (int k = 0; k < 4; k++) at[k] = (uint8_t)(value >> 8 * k);
+    return at + 4;
+}
+
+/* All pairs, less so many of lot 0 with the last calls; every amount at the limit. */
+static void fill(struct desk *desk, uint32_t calls, uint32_t missing)
+{
+    uint8_t *at = desk->book + 7;
+    memcpy(desk->book, "CLB\1", 5), memcpy(desk->amounts, "CLA\1", 5);
+    desk->book[5] = desk->amounts[5] = LOTS, desk->book[6] = desk->amounts[6] = (uint8_t)calls;
+    for (uint32_t lot = 0; lot < LOTS; lot++) {
+        uint32_t count = lot == 0 ? calls - missing : calls;
+        at = put(at, UINT32_MAX >> (32 - count));
+        for (uint32_t call = 0; call < count; call++) at = put(at, 1000 - lot * call);
+    }
+    desk->book_len = (size_t)(at - desk->book);
+    at = desk->amounts + 7;
+    for (uint32_t k = 0; k < LOTS + calls; k++) at = put(at, PLACER_AMOUNT_MAX);
+    desk->amounts_len = (size_t)(at - desk->amounts);
 }
 
 static void *nothing(void *unused) { return unused; }
-static void *read_book(void *unused) { return last = placer_read_book(book, sizeof book), unused; }
-static void *lot_costs(void *unused) { return last.values[0] = placer_lot_costs(book, sizeof book, 31).len, unused; }
-static void *pair_cost(void *unused) { return last = placer_pair_cost(book, sizeof book, 31, 31), unused; }
-static void *read_amounts(void *unused) { return last = placer_read_amounts(book, sizeof book, amounts, sizeof amounts), unused; }
-static void *check_order(void *unused) { return last = placer_check_order(book, sizeof book, order, sizeof order), unused; }
-static void *find_order(void *unused) { return last = placer_find_order(book, sizeof book, order, sizeof order), unused; }
-static void *find_and_run(void *unused)
+static void *read_book(void *unused) { return last = placer_read_book(on->book, on->book_len), unused; }
+static void *lot_costs(void *unused) { return last.values[0] = placer_lot_costs(on->book, on->book_len, 31).len, unused; }
+static void *pair_cost(void *unused) { return last = placer_pair_cost(on->book, on->book_len, 31, 31), unused; }
+static void *read_amounts(void *unused)
 {
-    return last = placer_find_and_run(book, sizeof book, amounts, sizeof amounts, flow, PLACER_FLOW_MAX), unused;
+    return last = placer_read_amounts(on->book, on->book_len, on->amounts, on->amounts_len), unused;
 }
-static void *find_less_one(void *unused) { return last = placer_find_order(less_one, sizeof less_one, order, sizeof order), unused; }
-static void *find_and_run_less_one(void *unused)
-{
-    return last = placer_find_and_run(less_one, sizeof less_one, amounts, sizeof amounts, flow, PLACER_FLOW_MAX), unused;
-}
+static void *check_order(void *unused) { return last = placer_check_order(on->book, on->book_len, order, sizeof order), unused; }
+static void *find_order(void *unused) { return last = placer_find_order(on->book, on->book_len, order, sizeof order), unused; }
 static void *run_order(void *unused)
 {
-    return last = placer_run_order(book, sizeof book, order, sizeof order, amounts, sizeof amounts, flow, PLACER_FLOW_MAX), unused;
+    last = placer_run_order(on->book, on->book_len, order, sizeof order, on->amounts, on->amounts_len, flow, PLACER_FLOW_MAX);
+    return unused;
+}
+static void *find_and_run(void *unused)
+{
+    return last = placer_find_and_run(on->book, on->book_len, on->amounts, on->amounts_len, flow, PLACER_FLOW_MAX), unused;
+}
+static void *find_and_run_idle(void *unused)
+{
+    return last = placer_find_and_run_idle(on->book, on->book_len, on->amounts, on->amounts_len, flow, PLACER_FLOW_MAX), unused;
 }
 
 static size_t used(void *(*call)(void *))
@@ -62,34 +91,26 @@ int main(void)
     static const struct {
         const char *name;
         void *(*call)(void *);
+        const struct desk *desk;
         uint32_t number;
-    } calls[] = {{"read_book", read_book, 0},
-                 {"lot_costs", lot_costs, 0},
-                 {"pair_cost", pair_cost, 0},
-                 {"read_amounts", read_amounts, 0},
-                 {"check_order, failing", check_order, PLACER_CROSS_SUM_TOO_HIGH},
-                 {"find_order", find_order, 0},
-                 {"check_order", check_order, 0},
-                 {"run_order", run_order, 0},
-                 {"find_and_run", find_and_run, 0},
-                 {"find_order, a pair missing", find_less_one, 0},
-                 {"find_and_run, a pair missing", find_and_run_less_one, 0}};
-    for (uint32_t lot = 0; lot < 32; lot++) {
-        put(book + 7 + 132 * lot, UINT32_MAX);
-        for (uint32_t call = 0; call < 32; call++) {
-            uint8_t *pair = order + 7 + 2 * (32 * lot + call);
-            put(book + 11 + 132 * lot + 4 * call, 1000 - lot * call);
-            pair[0] = (uint8_t)lot, pair[1] = (uint8_t)(31 - call);
-        }
-    }
-    /* lot 0 less its last call */
-    memcpy(less_one, book, 7);
-    put(less_one + 7, UINT32_MAX >> 1);
-    memcpy(less_one + 11, book + 11, 4 * 31);
-    memcpy(less_one + 135, book + 139, 31 * 132);
-    for (int k = 0; k < 64; k++) put(amounts + 7 + 4 * k, PLACER_AMOUNT_MAX);
+    } calls[] = {{"read_book", read_book, &largest, 0},
+                 {"lot_costs", lot_costs, &largest, 0},
+                 {"pair_cost", pair_cost, &largest, 0},
+                 {"read_amounts", read_amounts, &largest, 0},
+                 {"check_order, failing", check_order, &largest, PLACER_CROSS_SUM_TOO_HIGH},
+                 {"find_order", find_order, &largest, 0},
+                 {"check_order", check_order, &largest, 0},
+                 {"run_order", run_order, &largest, 0},
+                 {"find_and_run", find_and_run, &largest, 0},
+                 {"find_and_run_idle, 31 calls", find_and_run_idle, &of_31, 0},
+                 {"find_order, a pair missing", find_order, &less_one, 0},
+                 {"find_and_run, a pair missing", find_and_run, &less_one, 0},
+                 {"find_and_run_idle, 31 calls, a pair missing", find_and_run_idle, &of_31_less_one, 0}};
+    fill(&largest, 32, 0), fill(&less_one, 32, 1), fill(&of_31, 31, 0), fill(&of_31_less_one, 31, 1);
+    for (size_t k = 0; k < 1024; k++) order[7 + 2 * k] = (uint8_t)(k / 32), order[8 + 2 * k] = (uint8_t)(31 - k % 32);
     size_t before = used(nothing), most = 0;
     for (size_t k = 0; k < sizeof calls / sizeof calls[0]; k++) {
+        on = calls[k].desk;
         size_t bytes = used(calls[k].call) - before;
         printf("stack: %s takes %zu bytes\n", calls[k].name, bytes);
         if (last.number != calls[k].number) return printf("stack: %s replied %u\n", calls[k].name, (unsigned)last.number), 1;
