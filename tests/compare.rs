@@ -93,9 +93,11 @@ fn notice(c: &mut Comparison, names: &[&str]) {
     });
 }
 
-/// The parts and their names. The printing program is the last one, where it is built.
+/// The parts and their names, the two longest first. The printing program is the last one, where it is built.
 fn all_parts(path: &Path) -> Vec<(&str, Work<'_>)> {
     let mut parts: Vec<(&str, Work)> = vec![
+        ("families to 31 by 31", Box::new(|c| families::families(c, 2, &[14, 24, 31]))),
+        ("families to 32 by 32", Box::new(|c| families::families(c, 2, &[1, 2, 17, 32]))),
         ("damaged files", Box::new(|c| sections::damage(c, &samples::stored_books()))),
         ("books up to 2 by 2", Box::new(sections::small_books)),
         ("books of 3 by 3", Box::new(sections::three_by_three)),
@@ -104,8 +106,6 @@ fn all_parts(path: &Path) -> Vec<(&str, Work<'_>)> {
         ("random books to 32 by 32", Box::new(|c| sections::random_books(c, 600, 32, 6))),
         ("largest books", Box::new(sections::largest_books)),
         ("families to 12 by 12", Box::new(|c| families::families(c, 6, &[1, 2, 3, 4, 5, 6, 7, 8, 9, 10, 11, 12]))),
-        ("families to 31 by 31", Box::new(|c| families::families(c, 2, &[14, 24, 31]))),
-        ("families to 32 by 32", Box::new(|c| families::families(c, 2, &[1, 2, 17, 32]))),
         ("limits", Box::new(sections::limits)),
         ("known runs", Box::new(known::known)),
         ("known runs with an idle call", Box::new(known::known_idle)),
