@@ -106,12 +106,20 @@ pub const CORNERS_LESS: [u8; 27] =
 // lot 0, call 1,000,000,001
 pub const HIGH_CALL: [u8; 15] = *b"CLA\x01\0\x01\x01\0\0\0\0\x01\xca\x9a\x3b";
 
-// 5 by 1, not eligible
-pub const FIVE_BOOK: [u8; 27] = *b"CLB\x01\0\x05\x01\0\0\0\0\0\0\0\0\0\0\0\0\0\0\0\0\0\0\0\0";
+// 3 by 1, (2, 0) not eligible, costs 5 / 1 / -
+pub const DEAR_BOOK: [u8; 27] =
+    *b"CLB\x01\0\x03\x01\x01\0\0\0\x05\0\0\0\x01\0\0\0\x01\0\0\0\0\0\0\0";
 
-// lots 1,000,000,000 each, call 0
-pub const FIVE_AMOUNTS: [u8; 31] =
-    *b"CLA\x01\0\x05\x01\0\xca\x9a\x3b\0\xca\x9a\x3b\0\xca\x9a\x3b\0\xca\x9a\x3b\0\xca\x9a\x3b\0\0\0\0";
+// lots 3 3 4, call 5
+pub const DEAR_AMOUNTS: [u8; 23] = *b"CLA\x01\0\x03\x01\x03\0\0\0\x03\0\0\0\x04\0\0\0\x05\0\0\0";
+
+// 6 by 1, costs 1 1 1 1 1 0
+pub const SIX_BOOK: [u8; 55] =
+    *b"CLB\x01\0\x06\x01\x01\0\0\0\x01\0\0\0\x01\0\0\0\x01\0\0\0\x01\0\0\0\x01\0\0\0\x01\0\0\0\x01\0\0\0\x01\0\0\0\x01\0\0\0\x01\0\0\0\0\0\0\0";
+
+// lots 1,000,000,000 each, call 1,000,000,000
+pub const SIX_AMOUNTS: [u8; 35] =
+    *b"CLA\x01\0\x06\x01\0\xca\x9a\x3b\0\xca\x9a\x3b\0\xca\x9a\x3b\0\xca\x9a\x3b\0\xca\x9a\x3b\0\xca\x9a\x3b\0\xca\x9a\x3b";
 
 // 1 by 31, the lot eligible for call 30 alone, at cost 5
 pub const WIDE_BOOK: [u8; 15] = *b"CLB\x01\0\x01\x1f\0\0\0\x40\x05\0\0\0";

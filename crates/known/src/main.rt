@@ -153,12 +153,13 @@ fn stock_to_spare() {
     find_and_run_idle(b"No amounts", &given::SPARE_BOOK, &given::NO_AMOUNTS);
 }
 
-// A lot with no eligible call may stay idle; what it cannot give still lacks. More than 32 bits of units stay idle.
-fn bare_lots() {
+// A lot with no eligible call may stay idle, and a call that it alone could meet still lacks. Of six lots the five with a cost stay idle, more units
+// than 32 bits hold.
+fn lots_that_stay() {
     find_and_run_idle(b"F8", &given::F6_BOOK, &given::F8_AMOUNTS);
     find_and_run_idle(b"F10", &given::F10_BOOK, &given::F10_AMOUNTS);
-    find_and_run_idle(b"Lone lot", &given::LONE_BOOK, &given::LONE_AMOUNTS);
-    find_and_run_idle(b"Five lots", &given::FIVE_BOOK, &given::FIVE_AMOUNTS);
+    find_and_run_idle(b"Dear lot", &given::DEAR_BOOK, &given::DEAR_AMOUNTS);
+    find_and_run_idle(b"Six lots", &given::SIX_BOOK, &given::SIX_AMOUNTS);
 }
 
 // The book has an order, and the enlarged one has none. 17 is about the book's own m and comes before 13, 18 before 17, and 16 before 18.
@@ -215,7 +216,7 @@ fn main() {
     few_pairs();
     left_and_lacking();
     stock_to_spare();
-    bare_lots();
+    lots_that_stay();
     idle_refused();
     many_calls();
 }

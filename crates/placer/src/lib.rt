@@ -64,7 +64,7 @@ pub fn find_and_run(book: &[u8], amounts: &[u8], flow: &mut [u32]) -> Placed
     find_then_run(book, n, m, false, remaining, flow)
 }
 
-// The same with an idle call, number m, which lacks what the lots have more than the calls want: the cheapest choice of the stock that stays
+// The same with an idle call, number m, whose amount is what the lots have more than the calls: the cheapest choice of the stock that stays
 // idle. What that call lacks may be above 32 bits, and is carried in 64.
 pub fn find_and_run_idle(book: &[u8], amounts: &[u8], flow: &mut [u32]) -> Placed
     ensures { λ r. ⌜ statedPlaced r ≡ findAndRunIdle (now (book .entry)) (now (amounts .entry)) (now (flow .entry)) ⌝ }

@@ -112,7 +112,7 @@ pub extern "C" fn placer_find_and_run(book: &[u8], amounts: &[u8], flow: &mut [u
     told::placed(placer::find_and_run(book, amounts, flow))
 }
 
-// The same with an idle call, which takes what the calls leave: units and cost of the book's own calls, and their flow.
+// The same with an idle call, whose amount is what the lots have more than the calls: units and cost of the book's own calls, and their flow.
 #[no_mangle]
 pub extern "C" fn placer_find_and_run_idle(book: &[u8], amounts: &[u8], flow: &mut [u32]) -> Answer
     ensures { λ r. ⌜ r ≡ answerOf placed (findAndRunIdle (now (book .entry)) (now (amounts .entry)) (now (flow .entry))) ⌝ }

@@ -199,26 +199,31 @@ other-cases =
     }
 
 -- Request 2. Rows - 1 / 0 0 / 1 - (- not eligible): the book has an order, and the enlarged book has none
-abbrev bookCorners : List ℕ
+abbrev pub bookCorners : List ℕ
 bookCorners = book 3 2 (2 ∷ 1 ∷ 3 ∷ 0 ∷ 0 ∷ 1 ∷ 1 ∷ [])
 
 -- 2 by 2, costs 3 5 / 1 2; lots 3 4, calls 3 2: two units stay idle, and lot 0 is the dear one
-abbrev bookSpare : List ℕ
+abbrev pub bookSpare : List ℕ
 bookSpare = book 2 2 (3 ∷ 3 ∷ 5 ∷ 3 ∷ 1 ∷ 2 ∷ [])
 
-abbrev amountsSpare : List ℕ
+abbrev pub amountsSpare : List ℕ
 amountsSpare = amounts 2 2 (3 ∷ 4 ∷ 3 ∷ 2 ∷ [])
 
 -- one lot with no eligible call, of this many
 abbrev bookBare : ℕ → List ℕ
 bookBare m = book 1 m (0 ∷ [])
 
--- five lots of the highest amount, and a call that wants nothing
-abbrev bookFive : List ℕ
-bookFive = book 5 1 (0 ∷ 0 ∷ 0 ∷ 0 ∷ 0 ∷ [])
+-- 3 by 1, costs 5 / 1 / not eligible; lots 3 3 4, call 5: the lot with no eligible call stays idle, and one unit of the dear lot
+abbrev bookDear : List ℕ
+bookDear = book 3 1 (1 ∷ 5 ∷ 1 ∷ 1 ∷ 0 ∷ [])
 
-abbrev amountsFive : List ℕ
-amountsFive = amounts 5 1 [] ++ (highestAmount ++ (highestAmount ++ (highestAmount ++ (highestAmount ++ (highestAmount ++ replicate 4 0)))))
+-- 6 by 1, costs 1 1 1 1 1 0, and each amount the highest: 5,000,000,000 units stay idle
+abbrev bookSix : List ℕ
+bookSix = book 6 1 (1 ∷ 1 ∷ 1 ∷ 1 ∷ 1 ∷ 1 ∷ 1 ∷ 1 ∷ 1 ∷ 1 ∷ 1 ∷ 0 ∷ [])
+
+abbrev amountsSix : List ℕ
+amountsSix = amounts 6 1 []
+    ++ (highestAmount ++ (highestAmount ++ (highestAmount ++ (highestAmount ++ (highestAmount ++ (highestAmount ++ highestAmount))))))
 
 pub record IdleCases : Type 0 where
   pub spare : findAndRunIdle bookSpare amountsSpare (replicate 5 8) ≡ gives (record { verdict = covered; units = 5; cost = 9 })
@@ -228,11 +233,12 @@ pub record IdleCases : Type 0 where
   -- equal totals: Full; nothing to place: Full
   pub equal : findAndRunIdle book1235 amounts5436 (replicate 4 8) ≡ gives (record { verdict = full; units = 9; cost = 24 })
   pub nothing : findAndRunIdle bookSpare (amounts 2 2 (replicate 4 0)) (replicate 4 8) ≡ gives (record { verdict = full; units = 0; cost = 0 })
-  -- a lot with no eligible call is eligible for the idle one: all of it stays idle, or a call still lacks units
-  pub bare : findAndRunIdle (bookBare 1) (amounts 1 1 (5 ∷ 0 ∷ [])) (8 ∷ []) ≡ gives (record { verdict = covered; units = 0; cost = 0 })
+  -- a lot with no eligible call is eligible for the idle one; a call that it alone could meet still lacks units
+  pub dear : findAndRunIdle bookDear (amounts 3 1 (3 ∷ 3 ∷ 4 ∷ 5 ∷ [])) (replicate 3 8)
+      ≡ gives (record { verdict = covered; units = 5; cost = 13 })
   pub bare-short : findAndRunIdle (bookBare 1) (amounts 1 1 (5 ∷ 5 ∷ [])) (8 ∷ []) ≡ gives (record { verdict = short; units = 0; cost = 0 })
-  -- 5,000,000,000 units stay idle
-  pub above-32-bits : findAndRunIdle bookFive amountsFive (replicate 5 8) ≡ gives (record { verdict = covered; units = 0; cost = 0 })
+  -- the idle call's amount is above 32 bits: the lots with a cost stay idle, all of them
+  pub above-32-bits : findAndRunIdle bookSix amountsSix (replicate 6 8) ≡ gives (record { verdict = covered; units = 1000000000; cost = 0 })
   -- with 31 calls the idle one is the last that fits, and with 32 there is none
   pub thirty-one : findAndRunIdle (bookBare 31) (amounts 1 31 (1 ∷ replicate 31 0)) (replicate 31 8)
       ≡ gives (record { verdict = covered; units = 0; cost = 0 })
@@ -256,7 +262,7 @@ idle-cases =
       spare-plain = refl;
       equal = refl;
       nothing = refl;
-      bare = refl;
+      dear = refl;
       bare-short = refl;
       above-32-bits = refl;
       thirty-one = refl;

@@ -1,4 +1,5 @@
--- The demands' hypotheses are met, by the books and amounts of F1, F8, F9 and F10: the demands speak of something.
+-- The demands' hypotheses are met, by the books and amounts of F1, F8, F9 and F10, and those of request 2 by computed cases: they speak of
+-- something.
 use mathlib.Core.Path.{_≡_, refl, sym, _∙_}
 use mathlib.Core.Logic.{inr, ⊎-elim}
 use mathlib.Core.List.{List, [], _∷_}
@@ -9,7 +10,7 @@ use lib.ListN.{length, replicate}
 use Rattle.transport.specs.Problem.{sum, Meets, MeetsCalls}
 use Rattle.transport.specs.Greedy.{Pair}
 use Rattle.transport.specs.Finder.{every}
-use Rattle.specification.specs.Reply.{gives, full, Outcome}
+use Rattle.specification.specs.Reply.{gives, full, covered, Outcome}
 use Rattle.specification.specs.Bytes.{u16At, u32At, readOpening}
 use Rattle.specification.specs.Book.{readCosts, readRow, readRows, readBook, rowAt, problemOf}
 use Rattle.specification.specs.Amounts.{lotAmount, callAmount, readAmountsOf, readAmounts}
@@ -17,9 +18,13 @@ use Rattle.specification.specs.OrderFile.{orderPairs}
 use Rattle.specification.specs.Run.{runOrder}
 use Rattle.specification.specs.Find.{orderLength, findOrder}
 use Rattle.specification.specs.Demands.{Readable, Passing, GoodOrder, returned}
+use Rattle.specification.specs.Idle.{enlarged}
+use Rattle.specification.specs.Requests.{SomeMeetsCalls, Allowed, IdleRun}
 use Rattle.specification.specs.Examples.{amounts, book1235, amounts5436, bookGap, bookEmpty, bookDiagonal, known-examples}
+use Rattle.specification.proofs.AllCases.{bookCorners, bookSpare, amountsSpare, idle-cases}
 use Rattle.specification.proofs.Replies.{not-both}
 use Rattle.specification.proofs.Verdicts.{short-not-full, short-not-covered}
+use Rattle.specification.proofs.IdleRuns.{request2}
 use Rattle.specification.proofs.Demands.{demand2, demand3}
 
 -- the buffers of the examples
@@ -43,7 +48,7 @@ amounts8 = amounts 2 2 (2 ∷ 0 ∷ 1 ∷ 0 ∷ [])
 abbrev amounts10 : List ℕ
 amounts10 = amounts 1 1 (1 ∷ 1 ∷ [])
 
--- what demands 2 and 3 assume, each met
+-- what demands 2 and 3 and request 2 assume, each met
 pub record NotVacuous : Type 0 where
   -- a readable book, a buffer long enough, and an order returned
   pub readable : Readable book1235
@@ -61,6 +66,12 @@ pub record NotVacuous : Type 0 where
   pub none-meets-calls : (x : ℕ → ℕ → ℕ) → MeetsCalls (problemOf bookEmpty) (lotAmount amounts10) (callAmount bookEmpty amounts10) x → ⊥
   -- a readable book with no good order
   pub none-good : Readable bookDiagonal × ((S : List Pair) → GoodOrder (problemOf bookDiagonal) S → ⊥)
+  -- with an idle call a run that is accepted, and an allocation that meets its calls
+  pub idle-run : IdleRun bookSpare amountsSpare (replicate 5 8) (record { verdict = covered; units = 5; cost = 9 })
+  pub idle-meets : SomeMeetsCalls bookSpare amountsSpare
+  -- and a book with an order, whose enlarged book has none that is good, where no other refusal applies
+  pub idle-none-good : Allowed bookCorners (amounts 3 2 (replicate 5 0)) (replicate 6 8)
+      × ((S : List Pair) → GoodOrder (enlarged bookCorners) S → ⊥)
 
 length-1235 : orderLength book1235 ≡ 15
 unfolding problemOf rowAt u16At u32At sum ones
@@ -87,11 +98,22 @@ runs-1235 =
     sym (demand2 .find-and-run book1235 orderBuffer 15 (known-examples .f1-found .0) amounts5436 flowBuffer .0)
     ∙ known-examples .f1-placed .0
 
+idle-allowed : Allowed bookCorners (amounts 3 2 (replicate 5 0)) (replicate 6 8)
+unfolding u16At u32At readOpening readCosts readRow readRows readBook readAmountsOf readAmounts ones onesIn every sum
+idle-allowed = record {
+  size = record { lots = 3; calls = 2 };
+  reads = refl;
+  not-18 = omega arith;
+  not-19 = omega arith;
+  not-17 = omega arith;
+}
+
 pub not-vacuous : NotVacuous
 not-vacuous =
     let found = known-examples .f1-found .0 in
     let long : orderLength bookDiagonal ≤ 19 = omega (arith, length-diagonal) in
     let (_, by) = demand3 .by-returned book1235 orderBuffer 15 found in
+    let idle = request2 .runs bookSpare amountsSpare (replicate 5 8) _ (idle-cases .spare) in
     record {
       readable = (_, reads-1235);
       long-enough = omega (arith, length-1235);
@@ -108,5 +130,11 @@ not-vacuous =
       none-good = (
         (_, reads-diagonal),
         λ S good. not-both (demand3 .finds bookDiagonal (replicate 19 7) (_, reads-diagonal) long S good) (known-examples .f9),
+      );
+      idle-run = idle;
+      idle-meets = idle .covered-by-totals .0 refl .1;
+      idle-none-good = (
+        idle-allowed,
+        λ S good. not-both (request2 .finds bookCorners _ _ idle-allowed S good .1) (idle-cases .no-order),
       );
     }

@@ -9,7 +9,7 @@ use Prim.Native.Nat.{ℕ, _*_, _≤_, _<_}
 use native.Mathlib.Omega.{arith}
 use lib.Dec.{ltb, eqb, ltb→lt, nltb→le, eqb→eq, T-not}
 use lib.ListN.{length}
-use borrow.Author.Tests.{lt-ltb, le-ltb}
+use borrow.Author.Tests.{lt-ltb, le-ltb, ne-eqb}
 use Rattle.transport.specs.Problem.{Problem, sum}
 use Rattle.transport.specs.Greedy.{Pair}
 use Rattle.transport.specs.Order.{OrderOf, Monge}
@@ -47,7 +47,7 @@ use Rattle.specification.proofs.Flows.{length-flowOf}
 use Rattle.specification.proofs.Runs.{ran-of}
 use Rattle.specification.proofs.Finds.{found-is-good, none-is-good, or-13-says}
 
--- each where those before it do not apply
+-- the refusals of a run with an idle call, each where those before it do not apply
 pub data IdleRefused (book amounts flow : List ℕ) : ℕ → List ℕ → Type 0 where
   of-amounts : {k : ℕ} {vs : List ℕ} → AmountsOrBookRefused book amounts k vs → readAmounts book amounts ≡ refuses k vs
       → IdleRefused book amounts flow k vs
@@ -109,21 +109,21 @@ module _ (book amounts flow : List ℕ) where
 -- what the two totals say of a verdict: Full where they are equal, and Covered where the lots' is higher
 module _ (book amounts : List ℕ) (o : Outcome) (enough : callsTotal book amounts ≤ lotsTotal book amounts)
     (verdicts : Verdicts book amounts o) where
-  full-by-totals : (o .verdict ≡ full) ↔ ((callsTotal book amounts ≡ lotsTotal book amounts) × SomeMeetsCalls book amounts)
+  by-equal-totals : (o .verdict ≡ full) ↔ ((callsTotal book amounts ≡ lotsTotal book amounts) × SomeMeetsCalls book amounts)
   unfolding problemOf
-  full-by-totals = (
+  by-equal-totals = (
     λ e. let (x, m) = verdicts .full-iff .0 e in (sym (totals-of-meets m), (x, meets-calls-of-meets m)),
     λ (equal, (x, m)). verdicts .full-iff .1 (x, meets-of-totals (sym equal) m),
   )
 
-  covered-by-totals : (o .verdict ≡ covered) ↔ ((callsTotal book amounts < lotsTotal book amounts) × SomeMeetsCalls book amounts)
-  covered-by-totals = (
+  by-higher-total : (o .verdict ≡ covered) ↔ ((callsTotal book amounts < lotsTotal book amounts) × SomeMeetsCalls book amounts)
+  by-higher-total = (
     λ e.
         let some-meets = verdicts .met-iff .0 (inr e) in
         let differ : (callsTotal book amounts ≡ lotsTotal book amounts → ⊥) =
-        λ equal. not-covered e (full-by-totals .1 (equal, some-meets)) in
+        λ equal. not-covered e (by-equal-totals .1 (equal, some-meets)) in
         (omega (arith, enough, differ), some-meets),
-    λ (less, some-meets). ⊎-elim (λ e. absurd (omega (arith, full-by-totals .0 e .0))) (λ e. e) (verdicts .met-iff .1 some-meets),
+    λ (less, some-meets). ⊎-elim (λ e. absurd (omega (arith, by-equal-totals .0 e .0))) (λ e. e) (verdicts .met-iff .1 some-meets),
   )
     where
       not-covered : o .verdict ≡ covered → o .verdict ≡ full → ⊥
@@ -153,8 +153,8 @@ idle-run-by book amounts flow o S gave it is =
       least-cost = λ x m. rw is (idle-cheapest P order a b monge x m .2);
       greatest-units = λ x h. rw is (idle-most P order a b monge (enough-stock book amounts (gave .allowed .not-18)) x h);
       verdicts = verdicts;
-      full-iff = full-by-totals book amounts o (gave .allowed .not-18) verdicts;
-      covered-iff = covered-by-totals book amounts o (gave .allowed .not-18) verdicts;
+      full-by-totals = by-equal-totals book amounts o (gave .allowed .not-18) verdicts;
+      covered-by-totals = by-higher-total book amounts o (gave .allowed .not-18) verdicts;
     }
 
 -- amounts are read with one size
@@ -182,15 +182,26 @@ module _ (book amounts flow : List ℕ) (allowed : Allowed book amounts flow) wh
       (λ o (S, gave, _, _). never S (found-is-good (enlarged book) S (gave .found))) in
       e ∙ only-13 q .0
 
+refused-by-17 : (book amounts flow : List ℕ) (n : Size) → readAmounts book amounts ≡ gives n
+    → callsTotal book amounts ≤ lotsTotal book amounts → n .calls < 32 → length flow < n .lots * n .calls
+    → findAndRunIdle book amounts flow ≡ refuses 17 []
+unfolding findAndRunIdle foundToRunIdle problemOf
+refused-by-17 book amounts flow n reads enough few short =
+    let sizes = amounts-read book amounts n reads .0 .sizes in
+    let room : bookCalls book < 32 = rw sizes at few in
+    rw (reads, le-ltb _ _ enough, ne-eqb (bookCalls book) 32 (λ e. omega arith), lt-ltb _ _ (rw sizes at short)) refl
+
 pub request2 : Request2
 unfolding findAndRunIdle foundToRunIdle
 request2 = record {
   runs = λ book amounts flow o e.
       let (S, gave, it, is) = said-of-given (idle-says book amounts flow) o e in
       idle-run-by book amounts flow o S gave it is;
+  refused-amounts = λ book amounts flow k vs e. rw e refl;
   refused-18 = λ book amounts flow n reads h. rw (reads, lt-ltb _ _ h) refl;
   refused-19 = λ book amounts flow n reads h e.
       rw (reads, le-ltb _ _ h, sym (ap (λ s. s .calls) (amounts-read book amounts n reads .0 .sizes)) ∙ e) refl;
+  refused-17 = refused-by-17;
   finds = idle-found;
   or-13 = idle-refused;
 }

@@ -34,7 +34,7 @@ pub record IdleRun (book amounts flow : List ℕ) (o : Outcome) : Type 0 where
   pub order : List Pair
   pub found : find (enlarged book) ≡ some order
   -- "The flow, units, cost and verdict returned are those of the real calls, the flow laid out by the book's own m, units in the idle call
-  -- counting as left": of the amounts less the units written
+  -- counting as left": what a lot has left is its amount less the units written for it
   pub ran : Ran (problemOf book) (lotAmount amounts) (callAmount book amounts) (greedyIdleOn book order amounts .given)
       flow (findAndRunIdleFlow book amounts flow) o
   -- "no allocation that meets every real call costs less"
@@ -47,19 +47,27 @@ pub record IdleRun (book amounts flow : List ℕ) (o : Outcome) : Type 0 where
   -- totals" (request 1)
   pub verdicts : Verdicts book amounts o
   -- of the two it is Full where the totals are equal, and Covered where stock is to spare
-  pub full-iff : (o .verdict ≡ full) ↔ ((callsTotal book amounts ≡ lotsTotal book amounts) × SomeMeetsCalls book amounts)
-  pub covered-iff : (o .verdict ≡ covered) ↔ ((callsTotal book amounts < lotsTotal book amounts) × SomeMeetsCalls book amounts)
+  pub full-by-totals : (o .verdict ≡ full) ↔ ((callsTotal book amounts ≡ lotsTotal book amounts) × SomeMeetsCalls book amounts)
+  pub covered-by-totals : (o .verdict ≡ covered) ↔ ((callsTotal book amounts < lotsTotal book amounts) × SomeMeetsCalls book amounts)
 
 pub record Request2 : Type 0 where
   -- every run that is accepted
   pub runs : (book amounts flow : List ℕ) (o : Outcome) → findAndRunIdle book amounts flow ≡ gives o → IdleRun book amounts flow o
-  -- "18 when the calls' total exceeds the lots' total, after all other checks of the amounts"
+  -- amounts or a book that are refused are refused as ever: 18 comes "after all other checks of the amounts"
+  pub refused-amounts : (book amounts flow : List ℕ) (k : ℕ) (vs : List ℕ) → readAmounts book amounts ≡ refuses k vs
+      → findAndRunIdle book amounts flow ≡ refuses k vs
+  -- "18 when the calls' total exceeds the lots' total"
   pub refused-18 : (book amounts flow : List ℕ) (n : Size) → readAmounts book amounts ≡ gives n
       → lotsTotal book amounts < callsTotal book amounts → findAndRunIdle book amounts flow ≡ refuses 18 []
   -- "19 when the book already has 32 calls, after 18 and before 17"
   pub refused-19 : (book amounts flow : List ℕ) (n : Size) → readAmounts book amounts ≡ gives n
       → callsTotal book amounts ≤ lotsTotal book amounts → n .calls ≡ 32 → findAndRunIdle book amounts flow ≡ refuses 19 []
-  -- "13 is then about the enlarged book": where none of the others applies, it is accepted if some order of the enlarged book is good,
+  -- 17 by the book's own n and m
+  pub refused-17 : (book amounts flow : List ℕ) (n : Size) → readAmounts book amounts ≡ gives n
+      → callsTotal book amounts ≤ lotsTotal book amounts → n .calls < 32 → length flow < n .lots * n .calls
+      → findAndRunIdle book amounts flow ≡ refuses 17 []
+  -- "13 is then about the enlarged book": where none of the others applies, it is accepted if some order of the enlarged book is good (the
+  -- limit in `GoodOrder` makes no difference, theorem (e)),
   pub finds : (book amounts flow : List ℕ) → Allowed book amounts flow → (S : List Pair) → GoodOrder (enlarged book) S
       → (o : Outcome) × (findAndRunIdle book amounts flow ≡ gives o)
   -- and refused by 13 if none is

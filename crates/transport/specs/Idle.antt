@@ -27,7 +27,7 @@ idleAmounts P a b = put b (P .calls) (idleAmount P a b)
 abbrev pub withoutIdle : Problem → (ℕ → ℕ → ℕ) → ℕ → ℕ → ℕ
 withoutIdle P x i = put (x i) (P .calls) 0
 
--- of what GREEDY keeps for the enlarged book, what is the book's own: "those of the real calls, units in the idle call counting as left"
+-- of what GREEDY keeps for the enlarged book, what is the book's own: "those of the real calls, .. units in the idle call counting as left"
 abbrev pub realPart : Problem → State → State
 realPart P s = record {
   left = λ i. s .left i + s .given i (P .calls);
