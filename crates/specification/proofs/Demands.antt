@@ -57,7 +57,7 @@ use Rattle.specification.proofs.Finds.{
   find-in-table,
 }
 use Rattle.specification.proofs.FindRuns.{find-run-in-table, find-and-run-says, find-and-run-is-run, find-and-run-refused-13}
-use Rattle.specification.proofs.IdleRuns.{idle-in-table, idle-says}
+use Rattle.specification.proofs.IdleRuns.{idle-in-table, idle-says, request2}
 
 -- Demand 1. A reply is answered if its refusals have numbers of the table, and leave the buffer as it was.
 answered : {A : Type 0} {G : A → Type 0} {Q : ℕ → List ℕ → Type 0} {r : Reply A} (before after : List ℕ) → Says G Q r
@@ -118,6 +118,7 @@ demand2 = record {
   passes = check-passes;
   only-these = check-passes-only;
   runs = ran;
+  runs-idle = λ book amounts flow o e. request2 .runs book amounts flow o e .ran;
   read-back = λ book buffer n e. check-passes book _ (returned-passes book buffer n e) ∙ ap gives (returned-count book buffer n e);
   find-and-run = λ book buffer n e amounts flow.
       let w = written book buffer n e in

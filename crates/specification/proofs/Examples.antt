@@ -99,7 +99,7 @@ runs-1235 =
     ∙ known-examples .f1-placed .0
 
 idle-allowed : Allowed bookCorners (amounts 3 2 (replicate 5 0)) (replicate 6 8)
-unfolding u16At u32At readOpening readCosts readRow readRows readBook readAmountsOf readAmounts ones onesIn every sum
+unfolding u16At u32At readOpening readCosts readRow readRows readBook problemOf readAmountsOf readAmounts ones onesIn every sum
 idle-allowed = record {
   size = record { lots = 3; calls = 2 };
   reads = refl;

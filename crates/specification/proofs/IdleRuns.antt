@@ -10,7 +10,7 @@ use native.Mathlib.Omega.{arith}
 use lib.Dec.{ltb, eqb, ltb→lt, nltb→le, eqb→eq, T-not}
 use lib.ListN.{length}
 use borrow.Author.Tests.{lt-ltb, le-ltb, ne-eqb}
-use Rattle.transport.specs.Problem.{Problem, sum}
+use Rattle.transport.specs.Problem.{Problem}
 use Rattle.transport.specs.Greedy.{Pair}
 use Rattle.transport.specs.Order.{OrderOf, Monge}
 use Rattle.transport.specs.Finder.{find}
@@ -110,7 +110,6 @@ module _ (book amounts flow : List ℕ) where
 module _ (book amounts : List ℕ) (o : Outcome) (enough : callsTotal book amounts ≤ lotsTotal book amounts)
     (verdicts : Verdicts book amounts o) where
   by-equal-totals : (o .verdict ≡ full) ↔ ((callsTotal book amounts ≡ lotsTotal book amounts) × SomeMeetsCalls book amounts)
-  unfolding problemOf
   by-equal-totals = (
     λ e. let (x, m) = verdicts .full-iff .0 e in (sym (totals-of-meets m), (x, meets-calls-of-meets m)),
     λ (equal, (x, m)). verdicts .full-iff .1 (x, meets-of-totals (sym equal) m),
@@ -129,11 +128,6 @@ module _ (book amounts : List ℕ) (o : Outcome) (enough : callsTotal book amoun
       not-covered : o .verdict ≡ covered → o .verdict ≡ full → ⊥
       not-covered e f = let z : _≡_ {A = ℕ} 0 1 = cc in omega arith
 
-enough-stock : (book amounts : List ℕ) → callsTotal book amounts ≤ lotsTotal book amounts
-    → sum (problemOf book .calls) (callAmount book amounts) ≤ sum (problemOf book .lots) (lotAmount amounts)
-unfolding problemOf
-enough-stock book amounts h = h
-
 -- an accepted run, by the order found
 idle-run-by : (book amounts flow : List ℕ) (o : Outcome) (S : List Pair) → IdleGave book amounts flow S
     → foundToRunIdle book amounts flow ≡ gives S → o ≡ outcome (problemOf book) (greedyIdleOn book S amounts) → IdleRun book amounts flow o
@@ -147,11 +141,13 @@ idle-run-by book amounts flow o S gave it is =
     rw is (verdicts-of book amounts _ (idle-spends-iff P order a b monge) (idle-covers-iff P order a b monge)) in
     record {
       allowed = gave .allowed;
-      order = S;
-      found = gave .found;
-      ran = rw (it, is) (ran-of P (idle-kept P order a b) flow (long-enough book amounts flow (gave .allowed)));
+      ran = record {
+        order = S;
+        found = gave .found;
+        ran = rw (it, is) (ran-of P (idle-kept P order a b) flow (long-enough book amounts flow (gave .allowed)));
+      };
       least-cost = λ x m. rw is (idle-cheapest P order a b monge x m .2);
-      greatest-units = λ x h. rw is (idle-most P order a b monge (enough-stock book amounts (gave .allowed .not-18)) x h);
+      greatest-units = λ x h. rw is (idle-most P order a b monge (gave .allowed .not-18) x h);
       verdicts = verdicts;
       full-by-totals = by-equal-totals book amounts o (gave .allowed .not-18) verdicts;
       covered-by-totals = by-higher-total book amounts o (gave .allowed .not-18) verdicts;

@@ -3,13 +3,14 @@
 use mathlib.Core.Path.{_≡_}
 use mathlib.Core.Logic.{_⊎_, _↔_}
 use mathlib.Core.List.{List, [], _∷_}
+use mathlib.Core.Option.{some}
 use Prim.Native.Nat.{ℕ, _+_, _*_, _%_, _^_, _≤_, _<_}
 use lib.ListN.{length, getD, take}
 use lib.Count.{ones}
 use Rattle.transport.specs.Problem.{Problem, Eligible, sum, lotSum, callSum, units, totalCost, Allocation, Meets, MeetsCalls, Within}
 use Rattle.transport.specs.Greedy.{Pair, greedy}
 use Rattle.transport.specs.Order.{OrderOf, Monge, Good}
-use Rattle.transport.specs.Finder.{size}
+use Rattle.transport.specs.Finder.{size, find}
 use Rattle.specification.specs.declared.Refusal.{Refusal}
 use Rattle.specification.specs.Reply.{Reply, gives, refuses, stated, Size, Outcome, full, covered, short}
 use Rattle.specification.specs.Bytes.{u32At, orderMark, readOpening}
@@ -19,7 +20,7 @@ use Rattle.specification.specs.OrderFile.{orderCount, orderPairs, orderF
 use Rattle.specification.specs.Check.{checkOrder}
 use Rattle.specification.specs.Run.{greedyOn, runOrder, runFlow}
 use Rattle.specification.specs.Find.{orderLength, findOrder, findBuffer, findAndRun, findAndRunFlow}
-use Rattle.specification.specs.Idle.{findAndRunIdle, findAndRunIdleFlow}
+use Rattle.specification.specs.Idle.{enlarged, greedyIdleOn, findAndRunIdle, findAndRunIdleFlow}
 use Rattle.specification.specs.Text.{decimal, line, refusedWord, textOf, bookMost, printed}
 
 -- "a number from the table in document 01", and the values that its line returns
@@ -119,6 +120,16 @@ pub record Ran (P : Problem) (a b : ℕ → ℕ) (x : ℕ → ℕ → ℕ) (befo
   -- "Short when a call still lacks units" (request 1)
   pub short-told : (o .verdict ≡ short) ↔ ((j : ℕ) × (j < P .calls) × (callSum P x j < b j))
 
+-- what an accepted run with an idle call writes and replies (document 02, request 2)
+pub record RanIdle (book amounts flow : List ℕ) (o : Outcome) : Type 0 where
+  -- "An order is found for the enlarged book"
+  pub order : List Pair
+  pub found : find (enlarged book) ≡ some order
+  -- "The flow, units, cost and verdict returned are those of the real calls, the flow laid out by the book's own m, units in the idle call
+  -- counting as left": what a lot has left is its amount less the units written for it
+  pub ran : Ran (problemOf book) (lotAmount amounts) (callAmount book amounts) (greedyIdleOn book order amounts .given)
+      flow (findAndRunIdleFlow book amounts flow) o
+
 -- "the order file that the finder wrote, which ends at the length it replied" (document 01, Words)
 abbrev pub returned : List ℕ → List ℕ → List ℕ
 returned book buffer = take (orderLength book) (findBuffer book buffer)
@@ -156,6 +167,8 @@ pub record Demand2 : Type 0 where
   pub runs : (book order amounts flow : List ℕ) (o : Outcome) → runOrder book order amounts flow ≡ gives o
       → Ran (problemOf book) (lotAmount amounts) (callAmount book amounts) (greedyOn book (orderPairs order) amounts .given)
       flow (runFlow book order amounts flow) o
+  -- with an idle call those of GREEDY on the enlarged book, of the real calls (document 02, request 2)
+  pub runs-idle : (book amounts flow : List ℕ) (o : Outcome) → findAndRunIdle book amounts flow ≡ gives o → RanIdle book amounts flow o
   -- "an order written by the finder passes when read back"
   pub read-back : (book buffer : List ℕ) (n : ℕ) → findOrder book buffer ≡ gives n
       → checkOrder book (returned book buffer) ≡ gives (size (problemOf book))

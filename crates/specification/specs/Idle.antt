@@ -6,7 +6,7 @@ use Rattle.transport.specs.Problem.{Problem, sum}
 use Rattle.transport.specs.Greedy.{Pair, State}
 use Rattle.transport.specs.Idle.{withIdle, greedyIdle}
 use Rattle.specification.specs.Reply.{Reply, gives, refuseIf, _>>=_, afterwards, Outcome}
-use Rattle.specification.specs.Book.{bookLots, bookCalls, problemOf}
+use Rattle.specification.specs.Book.{bookCalls, problemOf}
 use Rattle.specification.specs.Amounts.{readAmounts, lotAmount, callAmount}
 use Rattle.specification.specs.Run.{outcome, flowOf, flowTooShort}
 use Rattle.specification.specs.Find.{orderOr13}
@@ -17,10 +17,10 @@ enlarged book = withIdle (problemOf book)
 
 -- "the lots' total", and "the calls' total"
 abbrev pub lotsTotal : List ℕ → List ℕ → ℕ
-lotsTotal book amounts = sum (bookLots book) (lotAmount amounts)
+lotsTotal book amounts = sum (problemOf book .lots) (lotAmount amounts)
 
 abbrev pub callsTotal : List ℕ → List ℕ → ℕ
-callsTotal book amounts = sum (bookCalls book) (callAmount book amounts)
+callsTotal book amounts = sum (problemOf book .calls) (callAmount book amounts)
 
 -- GREEDY by an order of the enlarged book, on the amounts of a file: what is the book's own of it
 abbrev pub greedyIdleOn : List ℕ → List Pair → List ℕ → State

@@ -3,17 +3,15 @@
 use mathlib.Core.Path.{_≡_}
 use mathlib.Core.Logic.{_↔_}
 use mathlib.Core.List.{List, []}
-use mathlib.Core.Option.{some}
 use Prim.Native.Nat.{ℕ, _*_, _≤_, _<_}
 use lib.ListN.{length}
 use Rattle.transport.specs.Problem.{units, totalCost, Allocation, MeetsCalls}
 use Rattle.transport.specs.Greedy.{Pair}
-use Rattle.transport.specs.Finder.{find}
 use Rattle.specification.specs.Reply.{gives, refuses, Size, Outcome, full, covered}
 use Rattle.specification.specs.Book.{problemOf}
 use Rattle.specification.specs.Amounts.{readAmounts, lotAmount, callAmount}
-use Rattle.specification.specs.Idle.{enlarged, lotsTotal, callsTotal, greedyIdleOn, findAndRunIdle, findAndRunIdleFlow}
-use Rattle.specification.specs.Demands.{Ran, Verdicts, GoodOrder}
+use Rattle.specification.specs.Idle.{enlarged, lotsTotal, callsTotal, findAndRunIdle}
+use Rattle.specification.specs.Demands.{RanIdle, Verdicts, GoodOrder}
 
 -- some allocation meets every real call
 abbrev pub SomeMeetsCalls : List ℕ → List ℕ → Type 0
@@ -30,13 +28,8 @@ pub record Allowed (book amounts flow : List ℕ) : Type 0 where
 -- Request 2: a run with an idle call, of the book's amounts, that is accepted
 pub record IdleRun (book amounts flow : List ℕ) (o : Outcome) : Type 0 where
   pub allowed : Allowed book amounts flow
-  -- "An order is found for the enlarged book"
-  pub order : List Pair
-  pub found : find (enlarged book) ≡ some order
-  -- "The flow, units, cost and verdict returned are those of the real calls, the flow laid out by the book's own m, units in the idle call
-  -- counting as left": what a lot has left is its amount less the units written for it
-  pub ran : Ran (problemOf book) (lotAmount amounts) (callAmount book amounts) (greedyIdleOn book order amounts .given)
-      flow (findAndRunIdleFlow book amounts flow) o
+  -- by the order found for the enlarged book, of the real calls
+  pub ran : RanIdle book amounts flow o
   -- "no allocation that meets every real call costs less"
   pub least-cost : (x : ℕ → ℕ → ℕ) → MeetsCalls (problemOf book) (lotAmount amounts) (callAmount book amounts) x
       → o .cost ≤ totalCost (problemOf book) x

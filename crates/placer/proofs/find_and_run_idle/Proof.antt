@@ -5,7 +5,6 @@ use mathlib.Core.List.{List}
 use Prim.Native.Nat.{ℕ, _-_}
 use native.Mathlib.Omega.{arith}
 use borrow.Author.Needs.{needs}
-use Rattle.transport.specs.Problem.{sum}
 use Rattle.transport.specs.Idle.{idleAmount}
 use Rattle.specification.specs.Reply.{Size, gives, statedCounts}
 use Rattle.specification.specs.Book.{bookCalls, readBook, problemOf}
@@ -72,19 +71,10 @@ module _ (c : tie.After-total2) where
   abbrev amounts : List ℕ
   amounts = args .args .amounts .now
 
-  totals : (c .before .total .result ≡ sum (problemOf book .lots) (lotAmount amounts))
-      × (c .total2 .result ≡ sum (problemOf book .calls) (callAmount book amounts))
+  totals : (c .before .total .result ≡ lotsTotal book amounts) × (c .total2 .result ≡ callsTotal book amounts)
   totals =
       let held = totals-are _ (size told) (book-read told) _ (read told) (loaded .remaining-of .ensures) in
       (c .before .total .ensures ∙ held .0, c .total2 .ensures ∙ held .1)
-
-  stock-is : c .before .total .result ≡ lotsTotal book amounts
-  unfolding problemOf
-  stock-is = totals .0
-
-  wanted-is : c .total2 .result ≡ callsTotal book amounts
-  unfolding problemOf
-  wanted-is = totals .1
 
   spare-is : c .before .total .result - c .total2 .result ≡ idleAmount (problemOf book) (lotAmount amounts) (callAmount book amounts)
   spare-is = ap₂ _-_ (totals .0) (totals .1)
@@ -96,12 +86,12 @@ module _ (c : tie.After-total2) where
 returns-2 : tie.Need-returns-2
 returns-2 c =
     let t = c .before in
-    refused-by-18 _ _ _ (size (told t)) (read (told t)) (omega (arith, stock-is t, wanted-is t, c .if1 .taken))
+    refused-by-18 _ _ _ (size (told t)) (read (told t)) (omega (arith, totals t, c .if1 .taken))
 
 returns-3 : tie.Need-returns-3
 returns-3 c =
     let t = c .before .before in
-    refused-by-19 _ _ _ (size (told t)) (read (told t)) (omega (arith, stock-is t, wanted-is t, c .before .if1 .left))
+    refused-by-19 _ _ _ (size (told t)) (read (told t)) (omega (arith, totals t, c .before .if1 .left))
     (omega (arith, calls-is t, c .if2 .taken))
 
 with-idle-requires : tie.Need-with-idle-requires
@@ -125,7 +115,7 @@ returns-4 c =
     let k = told t in
     let held = idle-held _ _ (lent k) (size k) (read k) (book-read k) (loaded t .remaining-of .ensures) (w .with-idle .ensures) (spare-is t) in
     let placed = c .before .before .find-then-run .ensures _ _ held in
-    let same = idle-is _ _ (lent k) (size k) (read k) (omega (arith, stock-is t, wanted-is t)) (λ e. omega (arith, calls-is t)) in
+    let same = idle-is _ _ (lent k) (size k) (read k) (omega (arith, totals t)) (λ e. omega (arith, calls-is t)) in
     (placed .0 ∙ sym (same .0), placed .1 ∙ sym (same .1))
 
 pub find-and-run-idle-spec : {M : Type 1} → statement M
