@@ -13,14 +13,11 @@ use lib.ListN.{length, length-drop}
 use Rattle.transport.specs.Problem.{sum}
 use Rattle.transport.specs.Finder.{size}
 use Rattle.transport.proofs.Laws.Sums.{sum-cong}
-use Rattle.transport.proofs.Finder.Same.{size-of-same}
-use Rattle.specification.specs.Book.{bit, rowWord, bookLots, bookCalls, rowAt, problemOf}
-use Rattle.book.specs.Pairs.{rowStart, onesBelow, offsetTable}
-use Rattle.book.specs.Table.{problemBy}
+use Rattle.specification.specs.Book.{bit, rowWord, bookLots, bookCalls, rowAt, problemOf, rowStart}
+use Rattle.book.specs.Pairs.{onesBelow}
 use Rattle.book.proofs.Bits.{ones-below-none, ones-below-set, ones-below-unset}
 use Rattle.book.proofs.Readable.{Read}
-use Rattle.book.proofs.Rows.{row-is, start-next, row-inside}
-use Rattle.book.proofs.Tables.{problem-same}
+use Rattle.specification.proofs.Starts.{row-is, start-next, row-inside}
 
 -- the set bits below bit c, one by one
 bits-sum : (word c : ℕ) → sum c (λ j. cond (bit word j) 1 0) ≡ onesBelow word c
@@ -60,13 +57,6 @@ module _ (book : List ℕ) where
           length-drop (rowStart book (bookLots book)) book,
         )
 
-    pub book-counted : length book ≡ 7 + 4 * n + 4 * size (problemBy book (offsetTable book) n m)
+    pub book-counted : length book ≡ 7 + 4 * n + 4 * size (problemOf book)
     unfolding problemOf
-    book-counted = omega (
-      arith,
-      ends,
-      starts (bookLots book),
-      sum-cong (bookLots book) _ _ row-sum,
-      size-of-same (problem-same book read),
-      read .lots-is,
-    )
+    book-counted = omega (arith, ends, starts (bookLots book), sum-cong (bookLots book) _ _ row-sum, read .lots-is)

@@ -12,10 +12,10 @@ use lib.Arith.{lt-of-le-ne}
 use lib.Dec.{ltb}
 use lib.ListN.{length, getD, replicate, length-replicate, getD-replicate}
 use lib.Seq.{ext-getD}
-use Rattle.specification.specs.Book.{bit, rowWord, bookLots, bookCalls, rowAt, problemOf}
+use Rattle.specification.specs.Book.{bit, rowWord, bookLots, bookCalls, rowAt, problemOf, rowStart}
 use Rattle.specification.proofs.Flows.{length-tabulate, tabulate-at}
 use Rattle.files.proofs.Parts.{le-or-lt}
-use Rattle.book.specs.Pairs.{readable, rowStart, onesBelow, costOffset, offsetTable}
+use Rattle.book.specs.Pairs.{readable, onesBelow, costOffset, offsetTable}
 use Rattle.book.specs.Table.{withRow, WithRow}
 use Rattle.book.proofs.Bits.{bit-below}
 use Rattle.book.proofs.Readable.{readable-is}

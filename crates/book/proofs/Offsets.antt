@@ -1,6 +1,6 @@
 -- What the table of offsets says of the book's problem. An entry is above 0 exactly where the book is readable and the pair eligible, and
 -- the number at that byte is then the pair's cost.
-use mathlib.Core.Path.{_≡_, refl, sym, ap₂, _∙_}
+use mathlib.Core.Path.{_≡_, refl, ap₂, _∙_}
 use mathlib.Core.Bool.{Bool, true, false}
 use mathlib.Core.List.{List}
 use Prim.Native.Nat.{ℕ, _+_, _*_, _/_, _%_, _<_}
@@ -8,12 +8,11 @@ use native.Mathlib.Omega.{arith}
 use borrow.Author.Tests.{lt-ltb, le-ltb}
 use lib.Dec.{ltb}
 use Rattle.specification.specs.Bytes.{u32At}
-use Rattle.specification.specs.Book.{rowWord, rowAt, problemOf}
-use Rattle.specification.proofs.Numbers.{u32-drop}
+use Rattle.specification.specs.Book.{costStart, problemOf}
 use Rattle.specification.proofs.Flows.{tabulate-at}
-use Rattle.book.specs.Pairs.{readable, hasCost, rowStart, onesBelow, costOffset, offsetTable}
+use Rattle.book.specs.Pairs.{readable, hasCost, costOffset, offsetTable}
 use Rattle.book.specs.Table.{entry}
-use Rattle.book.proofs.Rows.{row-is}
+use Rattle.specification.proofs.Starts.{cost-held}
 
 module _ (book : List ℕ) (i j : ℕ) (hi : i < 32) (hj : j < 32) where
   pub entry-is : entry (offsetTable book) i j ≡ costOffset book i j
@@ -27,7 +26,7 @@ module _ (book : List ℕ) (i j : ℕ) (hi : i < 32) (hj : j < 32) where
   entry-stands = rw entry-is (go (hasCost book i j) refl)
     where
       go : (b : Bool) → hasCost book i j ≡ b → ltb 0 (costOffset book i j) ≡ hasCost book i j
-      go true e = rw e (lt-ltb 0 (rowStart book i + (4 + 4 * onesBelow (rowWord (rowAt book i)) j)) (omega arith))
+      go true e = rw e (lt-ltb 0 (costStart book i j) (omega arith))
       go false e = rw e (le-ltb 0 0 (omega arith))
 
   pub entry-admits : readable book ≡ true → ltb 0 (entry (offsetTable book) i j) ≡ problemOf book .admits i j
@@ -35,5 +34,4 @@ module _ (book : List ℕ) (i j : ℕ) (hi : i < 32) (hj : j < 32) where
 
   -- and then the cost stands there
   pub entry-cost : hasCost book i j ≡ true → u32At book (entry (offsetTable book) i j) ≡ problemOf book .cost i j
-  unfolding problemOf
-  entry-cost e = rw (entry-is, e, row-is book i) (sym (u32-drop (rowStart book i) book _))
+  entry-cost e = rw (entry-is, e) (cost-held book i j)

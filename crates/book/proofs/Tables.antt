@@ -1,7 +1,7 @@
 -- The table of offsets of a readable book. From each entry on the book has four bytes, and the number there is at most the limit
 -- (`offsets-tabled`); the costs of a lot with all calls stand side by side (`offsets-packed`). The problem that the table states has the
 -- book's own eligible pairs and their costs (`problem-same`).
-use mathlib.Core.Path.{_≡_, refl, ap, _∙_, subst}
+use mathlib.Core.Path.{_≡_, refl, sym, ap, _∙_, subst}
 use mathlib.Core.Logic.{by-cases}
 use mathlib.Core.Bool.{Bool, true, false, cond, not, _&&_}
 use mathlib.Core.List.{List}
@@ -15,15 +15,15 @@ use Rattle.transport.specs.Problem.{Eligible}
 use Rattle.transport.proofs.Laws.Tests.{T-true, and-says, counted-of, counted-says}
 use Rattle.transport.proofs.Finder.Same.{Same}
 use Rattle.specification.specs.Bytes.{u32At}
-use Rattle.specification.specs.Book.{costLimit, bit, rowWord, bookLots, bookCalls, rowAt, problemOf}
+use Rattle.specification.specs.Book.{costLimit, bit, rowWord, bookLots, bookCalls, rowAt, problemOf, rowStart}
 use Rattle.specification.proofs.Numbers.{u32-drop}
 use Rattle.specification.proofs.Flows.{tabulate-at}
 use Rattle.specification.proofs.Books.{admitted-inside, cost-within}
-use Rattle.book.specs.Pairs.{hasCost, rowStart, onesBelow, costOffset, offsetTable}
+use Rattle.book.specs.Pairs.{hasCost, onesBelow, costOffset, offsetTable}
 use Rattle.book.specs.Table.{entry, admitsBy, problemBy, Tabled, Packed, Worded}
 use Rattle.book.proofs.Bits.{ones-below-none, ones-below-set, ones-below-all, ones-below-full, bit-of-full}
 use Rattle.book.proofs.Readable.{Read}
-use Rattle.book.proofs.Rows.{row-is, row-inside}
+use Rattle.specification.proofs.Starts.{row-is, row-inside, cost-inside}
 use Rattle.book.proofs.Offsets.{entry-is, entry-admits, entry-cost}
 use Rattle.book.proofs.Filled.{offset-row}
 
@@ -33,29 +33,32 @@ not-zero (suc x) = rw (lt-ltb 0 (suc x) (omega arith), ne-eqb (suc x) 0 (λ e. o
 
 module _ (book : List ℕ) {n m : ℕ} (read : Read book n m) where
   -- a pair with an offset above 0 is eligible
-  eligible-at : (i j : ℕ) → i < 32 → j < 32 → (entry (offsetTable book) i j ≡ 0 → ⊥) → Eligible (problemOf book) i j
+  pub eligible-at : (i j : ℕ) → i < 32 → j < 32 → (entry (offsetTable book) i j ≡ 0 → ⊥) → Eligible (problemOf book) i j
   eligible-at i j hi hj h =
       admitted-inside book i j
       (subst T (entry-admits book i j hi hj (read .is-readable)) (lt→ltb 0 (entry (offsetTable book) i j) (omega arith)))
 
-  -- and there the book holds its cost
-  cost-is : (i j : ℕ) → i < 32 → j < 32 → Eligible (problemOf book) i j
-      → u32At book (entry (offsetTable book) i j) ≡ problemOf book .cost i j
-  cost-is i j hi hj e = entry-cost book i j hi hj (rw (read .is-readable) (T-true (problemOf book .admits i j) (e .2)))
-
-  -- the four bytes from a cost's offset on stand in its lot's row
-  cost-inside : (i j : ℕ) → Eligible (problemOf book) i j
-      → rowStart book i + (4 + 4 * onesBelow (rowWord (rowAt book i)) j) + 4 ≤ length book
+  -- the book's lots and calls are of the table's
+  pub lot-few : (i : ℕ) → i < problemOf book .lots → i < 32
   unfolding problemOf
-  cost-inside i j (hi, hj, t) =
-      let word = rowWord (rowAt book i) in
-      let (_, rest) = and-says (ltb i (bookLots book)) (ltb j (bookCalls book) && bit word j) t in
-      let (_, set) = and-says (ltb j (bookCalls book)) (bit word j) rest in
-      omega (arith, row-inside (read .known) i hi, ones-below-set word j (T-true (bit word j) set), ones-below-all word (j + 1))
+  lot-few i h = omega (arith, read .known .lots-within)
+
+  pub call-few : (j : ℕ) → j < problemOf book .calls → j < 32
+  unfolding problemOf
+  call-few j h = omega (arith, read .known .calls-within)
+
+  -- at the offset of an eligible pair the book holds its cost
+  pub cost-at : (i j : ℕ) → Eligible (problemOf book) i j → u32At book (entry (offsetTable book) i j) ≡ problemOf book .cost i j
+  cost-at i j e =
+      entry-cost book i j (lot-few i (e .0)) (call-few j (e .1)) (rw (read .is-readable) (T-true (problemOf book .admits i j) (e .2)))
+
+  -- a pair with the offset 0 is not eligible
+  pub not-eligible-at : (i j : ℕ) → i < 32 → j < 32 → entry (offsetTable book) i j ≡ 0 → problemOf book .admits i j ≡ false
+  not-eligible-at i j hi hj e = sym (entry-admits book i j hi hj (read .is-readable)) ∙ rw e
 
   offset-inside : (i j : ℕ) (has : Bool) → hasCost book i j ≡ has → costOffset book i j + 4 ≤ length book
   offset-inside i j false e = rw e (omega (arith, read .known .opened .seven))
-  offset-inside i j true e = rw e (cost-inside i j (admitted-inside book i j (rw (rw (read .is-readable) at e) tt)))
+  offset-inside i j true e = rw e (cost-inside (read .known) i j (admitted-inside book i j (rw (rw (read .is-readable) at e) tt)))
 
   pub offsets-tabled : Tabled book (offsetTable book)
   offsets-tabled = record { within = within; cheap = cheap }
@@ -68,7 +71,7 @@ module _ (book : List ℕ) {n m : ℕ} (read : Read book n m) where
       cheap k h stands =
           let at : k ≡ 32 * (k / 32) + k % 32 = omega arith in
           let e = eligible-at (k / 32) (k % 32) (omega arith) (omega arith) (λ z. stands (rw at z)) in
-          rw at (omega (arith, cost-is (k / 32) (k % 32) (omega arith) (omega arith) e, cost-within (read .known) (k / 32) (k % 32) e))
+          rw at (omega (arith, cost-at (k / 32) (k % 32) e, cost-within (read .known) (k / 32) (k % 32) e))
 
   -- the offsets of a lot's costs go by its word: where the last of m is that of a cost with m - 1 before it, all m bits are set
   pub offsets-packed : 0 < m → m ≤ 32 → Packed (offsetTable book) m
@@ -157,4 +160,4 @@ module _ (book : List ℕ) {n m : ℕ} (read : Read book n m) where
       cost : (i j : ℕ) → (i < n) × (j < m) × T (admitsBy (offsetTable book) n m i j)
           → u32At book (entry (offsetTable book) i j) ≡ problemOf book .cost i j
       cost i j (hi, hj, t) =
-          cost-is i j (lot-in i hi) (call-in j hj) (omega (arith, read .lots-is), omega (arith, read .calls-is), subst T (admits i j hi hj) t)
+          cost-at i j (omega (arith, read .lots-is), omega (arith, read .calls-is), subst T (admits i j hi hj) t)

@@ -1,10 +1,10 @@
 -- What each case of the answer of `pair_cost` states, and the byte at which a readable book holds the cost of a pair.
 use mathlib.Core.List.{List}
 use mathlib.Core.Bool.{Bool, true, false, cond, _&&_}
-use Prim.Native.Nat.{ℕ, zero, suc, _+_, _*_, _/_, _%_, _^_}
+use Prim.Native.Nat.{ℕ, _/_, _%_, _^_}
 use lib.Count.{ones}
 use Rattle.specification.specs.Reply.{Reply, gives, refuses, refused}
-use Rattle.specification.specs.Book.{rowWord, rowSize, readBook, rowAt, problemOf, PairCost, costs, notEligible, outside}
+use Rattle.specification.specs.Book.{readBook, costStart, problemOf, PairCost, costs, notEligible, outside}
 use Rattle.specification.specs.Run.{tabulate}
 use Rattle.book.specs.declared.Cost.{Cost}
 use Rattle.book.specs.declared.Cost.the-variants.{Of, NotEligible, Outside, Refused}
@@ -29,18 +29,13 @@ readable book = notRefused (readBook book)
 abbrev pub hasCost : List ℕ → ℕ → ℕ → Bool
 hasCost book i j = readable book && problemOf book .admits i j
 
--- the byte at which the row of lot i starts
-unfoldable pub rowStart : List ℕ → ℕ → ℕ
-rowStart book zero = 7
-rowStart book (suc i) = rowStart book i + rowSize (rowAt book i)
-
 -- how many bits below bit j are set
 abbrev pub onesBelow : ℕ → ℕ → ℕ
 onesBelow word j = ones (word % 2 ^ j)
 
 -- the byte at which the book holds the cost of a pair, 0 where it has none
 abbrev pub costOffset : List ℕ → ℕ → ℕ → ℕ
-costOffset book i j = cond (hasCost book i j) (rowStart book i + (4 + 4 * onesBelow (rowWord (rowAt book i)) j)) 0
+costOffset book i j = cond (hasCost book i j) (costStart book i j) 0
 
 -- entry 32 i + j of the table of 1,024 is the offset of the cost of (i, j)
 abbrev pub offsetTable : List ℕ → List ℕ

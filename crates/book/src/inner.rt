@@ -10,8 +10,8 @@ ghost use lib.Dec.{leb};
 ghost use lib.ListN.{length, drop, getD};
 ghost use Rattle.transport.specs.Finder.{every, size};
 ghost use Rattle.specification.specs.Bytes.{u32At};
-ghost use Rattle.specification.specs.Book.{bookLots, rowCost, problemOf};
-ghost use Rattle.book.specs.Pairs.{readable, rowStart, offsetTable};
+ghost use Rattle.specification.specs.Book.{bookLots, rowCost, problemOf, rowStart};
+ghost use Rattle.book.specs.Pairs.{readable, offsetTable};
 ghost use Rattle.book.specs.Table.{entry, admitsBy, CanRead, WithRow, SetFrom};
 
 // The byte at which each of the first `lots` rows starts in a readable book.

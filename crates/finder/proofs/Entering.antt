@@ -19,15 +19,15 @@ use Rattle.transport.specs.Problem.{Eligible}
 use Rattle.transport.proofs.Laws.Tests.{and-says, counted-of, counted-le}
 use Rattle.transport.proofs.Finder.Same.{Same}
 use Rattle.specification.specs.Bytes.{u32At}
-use Rattle.specification.specs.Book.{costLimit, bit, rowWord, rowSize, rowCost, bookLots, bookCalls, rowAt, problemOf}
+use Rattle.specification.specs.Book.{costLimit, bit, rowWord, rowSize, rowCost, bookLots, bookCalls, rowAt, problemOf, rowStart}
 use Rattle.specification.proofs.Numbers.{u32-drop}
 use Rattle.specification.proofs.Rows.{RowRead}
 use Rattle.specification.proofs.Books.{BookRead, book-length}
-use Rattle.book.specs.Pairs.{rowStart, onesBelow}
+use Rattle.book.specs.Pairs.{onesBelow}
 use Rattle.book.specs.Table.{entry, SetFrom}
 use Rattle.book.proofs.Bits.{ones-below-none, ones-below-set, ones-below-clear, ones-below-all, bit-below, bit-past, bit-first, bit-after}
 use Rattle.book.proofs.Readable.{Read, readable-is}
-use Rattle.book.proofs.Rows.{row-is, row-inside, start-next}
+use Rattle.specification.proofs.Starts.{row-is, row-inside, start-next}
 use Rattle.slacks.specs.Slacks.{remains, bySlacks, Slacks}
 use Rattle.finder.specs.Filling.{slackIn, Entered, AtLot}
 use Rattle.slacks.proofs.BySlacks.{capped-zeros, capped-set}

@@ -1,18 +1,15 @@
--- What a table's entry says of a pair, and what that makes of the test of a quadruple.
+-- What a table's entry says of a pair.
 use mathlib.Core.Path.{_≡_, sym, subst}
 use mathlib.Core.Bool.{true, false, not, _&&_, and-false}
-use mathlib.Core.List.{List, [], _∷_}
+use mathlib.Core.List.{List}
 use Prim.Native.Nat.{ℕ, _+_, _*_, _≤_, _<_}
 use native.Mathlib.Omega.{arith}
-use borrow.Author.Tests.{lt-ltb, le-ltb, eq-eqb, ne-eqb}
+use borrow.Author.Tests.{lt-ltb, eq-eqb, ne-eqb}
 use lib.Dec.{T, T-not, ltb, eqb, ltb→lt}
 use Rattle.transport.proofs.Laws.Tests.{T-true, and-says}
-use Rattle.transport.specs.Problem.{Problem, Eligible}
-use Rattle.transport.specs.Greedy.{Pair}
+use Rattle.transport.specs.Problem.{Eligible}
 use Rattle.transport.proofs.Finder.Gaps.{Bounded}
-use Rattle.specification.specs.Reply.{gives, refuses}
 use Rattle.specification.specs.Book.{costLimit}
-use Rattle.specification.specs.Check.{checkQuadruple}
 use Rattle.book.specs.Table.{entry, admitsBy, problemBy, Tabled}
 
 module _ (book table : List ℕ) (n m : ℕ) (k l : ℕ) where
@@ -42,21 +39,3 @@ pub bounded : (book table : List ℕ) (n m : ℕ) → n ≤ 32 → m ≤ 32 → 
 bounded book table n m few few′ tabled i j e =
     let inside = admitted-in table n m i j (T-true (admitsBy table n m i j) (e .2)) in
     tabled .cheap (32 * i + j) (omega (arith, e .0, e .1)) (inside .2)
-
--- the three cases of a quadruple, in any problem
-module _ (P : Problem) (p : Pair) (k l : ℕ) where
-  pub quadruple-not-eligible : P .admits k l ≡ false → refuses 11 (p .lot ∷ p .call ∷ k ∷ l ∷ []) ≡ checkQuadruple P p k l
-  unfolding checkQuadruple
-  quadruple-not-eligible e = rw e
-
-  pub quadruple-too-high : P .admits k l ≡ true
-      → P .cost (p .lot) l + P .cost k (p .call) < P .cost (p .lot) (p .call) + P .cost k l
-      → refuses 12 (p .lot ∷ p .call ∷ k ∷ l ∷ []) ≡ checkQuadruple P p k l
-  unfolding checkQuadruple
-  quadruple-too-high e h = simp (e, lt-ltb _ _ h)
-
-  pub quadruple-holds : P .admits k l ≡ true
-      → P .cost (p .lot) (p .call) + P .cost k l ≤ P .cost (p .lot) l + P .cost k (p .call)
-      → gives tt ≡ checkQuadruple P p k l
-  unfolding checkQuadruple
-  quadruple-holds e h = simp (e, le-ltb _ _ h)

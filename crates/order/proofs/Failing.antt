@@ -20,13 +20,13 @@ use Rattle.transport.proofs.Finder.Standing.{standing, free-iff-after}
 use Rattle.specification.specs.Reply.{Reply, gives, _>>=_}
 use Rattle.specification.specs.Check.{bothIn, checkQuadruple, inTurn, checkMonge}
 use Rattle.specification.proofs.Crossing.{pair-holds}
+use Rattle.specification.proofs.Quadruples.{quadruple-holds}
 use Rattle.files.specs.Files.{statedStep}
 use Rattle.files.specs.declared.Step.{Step}
 use Rattle.files.specs.declared.Step.the-variants.{Passes, Refused}
-use Rattle.book.specs.Table.{entry, problemBy}
+use Rattle.book.specs.Table.{entry}
 use Rattle.order.specs.Places.{orderPair, rest, metAt, Shows}
 use Rattle.order.specs.Answers.{freeAt, LowestNotFree, quadrupleAt}
-use Rattle.order.proofs.Eligibles.{quadruple-holds}
 use Rattle.order.proofs.Placing.{rest-more, rest-none, met-later, lists-from}
 use Rattle.order.proofs.Scanning.{turn-gives, turn-same}
 
@@ -102,18 +102,18 @@ module _ (P : Problem) (inside : (i j : ℕ) → T (P .admits i j) → Eligible 
         ends (Refused x) given = refl
 
 -- the quadruples of the pair at a place, by the array of places
-module _ (book table places order : List ℕ) (count n m : ℕ) (few-lots : n ≤ 32) (few-calls : m ≤ 32)
+module _ (P : Problem) (places order : List ℕ) (count : ℕ) (few-lots : P .lots ≤ 32) (few-calls : P .calls ≤ 32)
     (shows : Shows 32 32 places (metAt order count)) (p : ℕ) (h : p < count)
-    (lot-in : orderPair order p .lot < n) (call-in : orderPair order p .call < m) where
-  after-is : (i j : ℕ) → i < n → j < m → ltb (p + 1) (entry places i j) ≡ standing (rest order count (p + 1)) i j
+    (lot-in : orderPair order p .lot < P .lots) (call-in : orderPair order p .call < P .calls) where
+  after-is : (i j : ℕ) → i < P .lots → j < P .calls → ltb (p + 1) (entry places i j) ≡ standing (rest order count (p + 1)) i j
   after-is i j hi hj =
       ap (ltb (p + 1)) (shows .at i j (omega arith) (omega arith))
       ∙ sym (met-later order count (count - (p + 1)) (p + 1) i j (omega arith))
 
   pub quadruples-by-array : (i j : ℕ) → i ≡ orderPair order p .lot → j ≡ orderPair order p .call
-      → inTurn n 0 (λ k. inTurn m 0 (quadrupleAt book table places n m p (pair i j) k))
-      ≡ quadruples (problemBy book table n m) (orderPair order p) (rest order count (p + 1))
-  quadruples-by-array i j lot-is call-is = rw (lot-is, call-is) (turn-same _ _ n 0 (λ k hk. turn-same _ _ m 0 (λ l hl.
-      ap₂ (λ (a b : Bool). cond (a && b) (checkQuadruple (problemBy book table n m) (orderPair order p) k l) (gives tt))
+      → inTurn (P .lots) 0 (λ k. inTurn (P .calls) 0 (quadrupleAt P places p (pair i j) k))
+      ≡ quadruples P (orderPair order p) (rest order count (p + 1))
+  quadruples-by-array i j lot-is call-is = rw (lot-is, call-is) (turn-same _ _ (P .lots) 0 (λ k hk. turn-same _ _ (P .calls) 0 (λ l hl.
+      ap₂ (λ (a b : Bool). cond (a && b) (checkQuadruple P (orderPair order p) k l) (gives tt))
       (after-is (orderPair order p .lot) l lot-in (omega arith))
       (after-is k (orderPair order p .call) (omega arith) call-in))))

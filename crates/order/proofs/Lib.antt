@@ -7,6 +7,7 @@ pub mod Replies  -- replies one after another
 pub mod Turns  -- one turn of the walk that notes places
 pub mod Lowering  -- least gaps lowered over one call after another, and in the turn of a pair
 pub mod Walking  -- one turn of the walk by least gaps
+pub mod Testing  -- the test of one quadruple by the table of offsets
 pub mod Scanning  -- the quadruples of a pair, one after another
 pub mod Failing  -- where an order first fails
 pub mod Settling  -- what the walk and the scan say together

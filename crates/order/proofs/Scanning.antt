@@ -10,6 +10,7 @@ use borrow.Author.Tests.{lt-ltb, le-ltb}
 use lib.Dec.{ltb}
 use Rattle.specification.specs.Reply.{Reply, gives, _>>=_}
 use Rattle.specification.specs.Check.{inTurn}
+use Rattle.transport.specs.Problem.{Problem}
 use Rattle.transport.specs.Greedy.{Pair}
 use Rattle.specification.specs.declared.Refusal.{Refusal}
 use Rattle.files.specs.declared.Step.{Step}
@@ -53,10 +54,10 @@ turn-same f g zero from h = refl
 turn-same f g (suc left) from h = rw (h from (omega arith), turn-same f g left (suc from) (λ l k. h l (omega arith)))
 
 -- with lot k: nothing where (k, j) does not stand later, and else what stands on (i, l)
-module _ (book table places : List ℕ) (n m place : ℕ) (p : Pair) (k l : ℕ) where
-  pub not-later : entry places k (p .call) ≤ place + 1 → quadrupleAt book table places n m place p k l ≡ gives tt
+module _ (P : Problem) (places : List ℕ) (place : ℕ) (p : Pair) (k l : ℕ) where
+  pub not-later : entry places k (p .call) ≤ place + 1 → quadrupleAt P places place p k l ≡ gives tt
   not-later h = rw (le-ltb (place + 1) (entry places k (p .call)) h, and-false (ltb (place + 1) (entry places (p .lot) l)))
 
   pub later : place + 1 < entry places k (p .call)
-      → callAt book table places n m place p k l ≡ quadrupleAt book table places n m place p k l
+      → callAt P places place p k l ≡ quadrupleAt P places place p k l
   later h = rw (lt-ltb (place + 1) (entry places k (p .call)) h, and-true (ltb (place + 1) (entry places (p .lot) l)))

@@ -5,33 +5,20 @@ use mathlib.Core.Bool.{Bool, true, false, cond, not, _&&_}
 use Prim.Native.Nat.{ℕ, _+_, _*_, _≤_, _<_, min}
 use lib.Dec.{ltb, leb}
 use lib.ListN.{set}
-use Rattle.transport.specs.Greedy.{Pair, pair}
+use Rattle.transport.specs.Greedy.{Pair}
 use Rattle.transport.specs.Problem.{Problem}
 use Rattle.transport.specs.Order.{OrderOf}
 use Rattle.transport.specs.Finder.{free}
 use Rattle.transport.proofs.Finder.Standing.{standing}
 use Rattle.specification.specs.Book.{bit}
-use Rattle.specification.specs.Reply.{Reply, gives, refuses, refuseIf, _>>=_}
+use Rattle.specification.specs.Reply.{Reply, gives, refuseIf, _>>=_}
 use Rattle.specification.specs.Check.{checkQuadruple, checkPairs, complete, checkMonge}
 use Rattle.files.specs.Files.{statedStep}
 use Rattle.book.specs.Table.{entry, admitsBy, problemBy}
 use Rattle.order.specs.Places.{orderPair, rest, metAt, Shows}
 use Rattle.order.specs.Gaps.{tableGap, Capped}
-use Rattle.order.specs.declared.scan.Quadruple.{Quadruple}
-use Rattle.order.specs.declared.scan.Quadruple.the-variants.{Holds, NotEligible, TooHigh}
 use Rattle.files.specs.declared.Step.{Step}
 use Rattle.files.specs.declared.Step.the-variants.{Passes}
-
-abbrev pub statedQuadruple : Pair → ℕ → ℕ → Quadruple → Reply (Unit {0})
-statedQuadruple p k l Holds = gives tt
-statedQuadruple p k l NotEligible = refuses 11 (p .lot ∷ p .call ∷ k ∷ l ∷ [])
-statedQuadruple p k l TooHigh = refuses 12 (p .lot ∷ p .call ∷ k ∷ l ∷ [])
-
--- for every count of lots above k and of calls above l: the answer is what the specification says of the quadruple
-abbrev pub Tested : List ℕ → List ℕ → ℕ → ℕ → ℕ → ℕ → Quadruple → Type 0
-Tested book table i j k l r =
-    (n m : ℕ) → k < n → l < m
-    → statedQuadruple (pair i j) k l r ≡ checkQuadruple (problemBy book table n m) (pair i j) k l
 
 -- one pair of an order, at a place: 9, then 10, and else one more than its place is noted
 pub record Met (table : List ℕ) (n m i j place : ℕ) (places : List ℕ) (r : Step) (later : List ℕ) : Type 0 where
@@ -69,19 +56,13 @@ Walked book table order count m r =
     (n : ℕ) → n ≤ 32 → OrderOf (problemBy book table n m) (rest order count 0) → LowestNotFree (problemBy book table n m) order count 0 r
 
 -- a quadruple of the pair p, which stands at a place, with lot k and call l: tested where (i, l) stands later
-abbrev pub callAt : List ℕ → List ℕ → List ℕ → ℕ → ℕ → ℕ → Pair → ℕ → ℕ → Reply (Unit {0})
-callAt book table places n m place p k l =
-    cond (ltb (place + 1) (entry places (p .lot) l)) (checkQuadruple (problemBy book table n m) p k l) (gives tt)
-
-abbrev pub TestedLater : List ℕ → List ℕ → List ℕ → ℕ → ℕ → ℕ → ℕ → ℕ → Step → Type 0
-TestedLater book table places place i j k l r =
-    (n m : ℕ) → k < n → l < m → statedStep r ≡ callAt book table places n m place (pair i j) k l
+abbrev pub callAt : Problem → List ℕ → ℕ → Pair → ℕ → ℕ → Reply (Unit {0})
+callAt P places place p k l = cond (ltb (place + 1) (entry places (p .lot) l)) (checkQuadruple P p k l) (gives tt)
 
 -- and where both (i, l) and (k, j) do
-abbrev pub quadrupleAt : List ℕ → List ℕ → List ℕ → ℕ → ℕ → ℕ → Pair → ℕ → ℕ → Reply (Unit {0})
-quadrupleAt book table places n m place p k l =
-    cond (ltb (place + 1) (entry places (p .lot) l) && ltb (place + 1) (entry places k (p .call)))
-    (checkQuadruple (problemBy book table n m) p k l) (gives tt)
+abbrev pub quadrupleAt : Problem → List ℕ → ℕ → Pair → ℕ → ℕ → Reply (Unit {0})
+quadrupleAt P places place p k l =
+    cond (ltb (place + 1) (entry places (p .lot) l) && ltb (place + 1) (entry places k (p .call))) (checkQuadruple P p k l) (gives tt)
 
 -- the count, where the step is no refusal
 abbrev pub countAfter : Step → ℕ → Reply ℕ

@@ -3,21 +3,30 @@ use mathlib.Core.Path.{_≡_}
 use mathlib.Core.Bool.{true}
 use mathlib.Core.List.{List}
 use Prim.Native.Nat.{ℕ, _+_, _*_, _≤_, _<_}
-use lib.ListN.{length}
+use lib.ListN.{length, getD}
+use Rattle.transport.specs.Problem.{Eligible}
 use Rattle.transport.specs.Order.{OrderOf}
-use Rattle.transport.specs.Finder.{size}
-use Rattle.specification.specs.Book.{bit}
-use Rattle.book.specs.Table.{entry, problemBy, Tabled, Packed, Worded}
+use Rattle.specification.specs.Reply.{gives}
+use Rattle.specification.specs.Book.{bit, readBook, rowStart, problemOf}
+use Rattle.specification.specs.Demands.{Readable}
+use Rattle.book.specs.Pairs.{offsetTable}
+use Rattle.book.specs.Table.{entry, Tabled, Packed, Worded}
 use Rattle.order.specs.Places.{orderPair, rest, metAt, Shows}
 use Rattle.order.specs.Gaps.{Capped, Singles}
 
--- a quadruple of the table's lots and calls
+-- a book that was read, with n lots and m calls, where it holds each pair's cost, and where its rows start
+pub record Held (book table starts : List ℕ) (n m : ℕ) : Type 0 where
+  pub reads : readBook book ≡ gives (record { lots = n; calls = m })
+  pub offsets : table ≡ offsetTable book
+  pub rows : (i : ℕ) → i < n → getD starts i 0 ≡ rowStart book i
+
+-- "any three eligible pairs (i, j), (i, l), (k, j) of a readable book" (document 02, request 3), and where it holds each pair's cost
 pub record CanTest (book table : List ℕ) (i j k l : ℕ) : Type 0 where
-  pub tabled : Tabled book table
-  pub lot-in : i < 32
-  pub call-in : j < 32
-  pub other-lot-in : k < 32
-  pub other-call-in : l < 32
+  pub readable : Readable book
+  pub offsets : table ≡ offsetTable book
+  pub own : Eligible (problemOf book) i j
+  pub by-lot : Eligible (problemOf book) i l
+  pub by-call : Eligible (problemOf book) k j
 
 -- an order file with room for its count of pairs, and no more than 32 lots and calls
 pub record CanWalk (order : List ℕ) (count n m : ℕ) : Type 0 where
@@ -53,37 +62,17 @@ pub record Walkable (book table starts order : List ℕ) (count m : ℕ) : Type 
   pub call-in : (p : ℕ) → p < count → orderPair order p .call < m
   pub in-table : (p : ℕ) → p < count → entry table (orderPair order p .lot) (orderPair order p .call) ≡ 0 → ⊥
 
--- the quadruples of the pair (i, j), which stands at a place, with lot k and each of m calls
-pub record CanScanLot (book table : List ℕ) (m place i j k : ℕ) : Type 0 where
-  pub tabled : Tabled book table
-  pub few-calls : m ≤ 32
+-- the quadruples of the eligible pair (i, j), which stands at a place; only eligible pairs have one
+pub record CanScan (book table places : List ℕ) (place i j : ℕ) : Type 0 where
+  pub readable : Readable book
+  pub offsets : table ≡ offsetTable book
+  pub placed : (k l : ℕ) → k < 32 → l < 32 → 0 < entry places k l → Eligible (problemOf book) k l
   pub few-pairs : place < 65535
-  pub lot-in : i < 32
-  pub call-in : j < m
-  pub other-in : k < 32
-
--- and with each of n lots
-pub record CanScan (book table : List ℕ) (n m place i j : ℕ) : Type 0 where
-  pub tabled : Tabled book table
-  pub few-lots : n ≤ 32
-  pub few-calls : m ≤ 32
-  pub few-pairs : place < 65535
-  pub lot-in : i < n
-  pub call-in : j < m
+  pub own : Eligible (problemOf book) i j
 
 -- an order of the eligible pairs, and the array of their places
 pub record CanSettle (book table starts places order : List ℕ) (count n m : ℕ) : Type 0 where
-  pub tabled : Tabled book table
-  pub packed : Packed table m
-  pub worded : Worded book table starts
+  pub held : Held book table starts n m
   pub sized : CanWalk order count n m
-  pub each-once : OrderOf (problemBy book table n m) (rest order count 0)
+  pub each-once : OrderOf (problemOf book) (rest order count 0)
   pub shows : Shows 32 32 places (metAt order count)
-
--- pairs of an order file, and a book that has four bytes for each lot and each eligible pair
-pub record CanCheck (book table starts order : List ℕ) (count n m : ℕ) : Type 0 where
-  pub tabled : Tabled book table
-  pub packed : Packed table m
-  pub worded : Worded book table starts
-  pub counted : length book ≡ 7 + 4 * n + 4 * size (problemBy book table n m)
-  pub sized : CanWalk order count n m

@@ -4,15 +4,14 @@ use specification::Checked;
 use specification::Refusal;
 ghost use mathlib.Core.Path.{_≡_};
 ghost use lib.ListN.{drop};
-ghost use Rattle.specification.specs.Book.{readBook};
+ghost use Rattle.specification.specs.Book.{readBook, problemOf};
 ghost use Rattle.specification.specs.Check.{checkMonge, checkOrder};
 ghost use Rattle.specification.specs.Reply.{gives, statedChecked};
 ghost use Rattle.specification.specs.OrderFile.{pairs};
 ghost use Rattle.files.specs.Files.{statedStep};
 ghost use Rattle.book.specs.Pairs.{offsetTable};
-ghost use Rattle.book.specs.Table.{problemBy};
 ghost use Rattle.order.specs.Places.{rest};
-ghost use Rattle.order.specs.Asked.{CanSettle, CanCheck};
+ghost use Rattle.order.specs.Asked.{Held, CanWalk, CanSettle};
 ghost use Rattle.order.specs.Answers.{countAfter, checkedPairs};
 
 // The answer to a whole order: its count of pairs, or the refusal.
@@ -37,9 +36,7 @@ fn settle(
     count: usize,
 ) -> Step
     requires { ⌜ CanSettle (now book) (now offsets) (now starts) (now places) (now order) count n m ⌝ }
-    ensures { λ r.
-        ⌜ statedStep r ≡ checkMonge (problemBy (now (book .entry)) (now (offsets .entry)) n m)
-        (rest (now (order .entry)) count 0) ⌝ }
+    ensures { λ r. ⌜ statedStep r ≡ checkMonge (problemOf (now (book .entry))) (rest (now (order .entry)) count 0) ⌝ }
 {
     let lowest = super::walk::walk(book, offsets, starts, m, order, count);
     if lowest == count {
@@ -67,10 +64,9 @@ fn check_pairs(
     order: &[u8],
     count: usize,
 ) -> Checked
-    requires { ⌜ CanCheck (now book) (now offsets) (now starts) (now order) count n m ⌝ }
+    requires { ⌜ Held (now book) (now offsets) (now starts) n m × CanWalk (now order) count n m ⌝ }
     ensures { λ r.
-        ⌜ statedChecked r ≡ checkedPairs (problemBy (now (book .entry)) (now (offsets .entry)) n m)
-        (pairs count (drop 7 (now (order .entry)))) count ⌝ }
+        ⌜ statedChecked r ≡ checkedPairs (problemOf (now (book .entry))) (pairs count (drop 7 (now (order .entry)))) count ⌝ }
 {
     let mut places: [u16; 1024] = [0; 1024];
     let met = super::places::fill_places(offsets, n, m, order, count, &mut places);

@@ -1,51 +1,24 @@
 // The first quadruple of a pair that fails: 11 and 12.
+use super::quadruple::test_quadruple;
 use files::Step;
 use specification::Call;
 use specification::Lot;
+use specification::Quadruple;
 use specification::Refusal;
 ghost use mathlib.Core.Path.{_≡_};
-ghost use Prim.Native.Nat.{ℕ, _<_};
+ghost use Prim.Native.Nat.{_<_};
+ghost use Rattle.transport.specs.Problem.{Eligible};
 ghost use Rattle.transport.specs.Greedy.{pair};
+ghost use Rattle.specification.specs.Reply.{statedQuadruple};
+ghost use Rattle.specification.specs.Book.{problemOf};
 ghost use Rattle.specification.specs.Check.{inTurn};
 ghost use Rattle.files.specs.Files.{statedStep};
-ghost use Rattle.order.specs.Asked.{CanTest, CanScanLot, CanScan};
-ghost use Rattle.order.specs.Answers.{Tested, TestedLater, statedQuadruple, quadrupleAt};
-
-// What one quadruple comes to.
-pub enum Quadruple {
-    Holds,
-    NotEligible,
-    TooHigh,
-}
-
-// The test of the pair (i, j) with lot k and call l.
-pub fn test_quadruple(
-    book: &[u8],
-    offsets: &[u16; 1024],
-    i: Lot,
-    j: Call,
-    k: Lot,
-    l: Call,
-) -> Quadruple
-    requires { ⌜ CanTest (now book) (now offsets) (i .0) (j .0) (k .0) (l .0) ⌝ }
-    ensures { λ r. ⌜ Tested (now (book .entry)) (now (offsets .entry)) (i .0) (j .0) (k .0) (l .0) r ⌝ }
-{
-    if book::inner::entry_of(offsets, k, l) == 0 {
-        return Quadruple::NotEligible;
-    }
-    let own = book::inner::cost_of(book, offsets, i, j) as u64;
-    let other = book::inner::cost_of(book, offsets, k, l) as u64;
-    let by_lot = book::inner::cost_of(book, offsets, i, l) as u64;
-    let by_call = book::inner::cost_of(book, offsets, k, j) as u64;
-    if by_lot + by_call < own + other {
-        return Quadruple::TooHigh;
-    }
-    Quadruple::Holds
-}
+ghost use Rattle.order.specs.Asked.{CanScan};
+ghost use Rattle.order.specs.Answers.{callAt, quadrupleAt};
 
 // The refusal that a quadruple comes to.
 fn named(q: Quadruple, i: Lot, j: Call, k: Lot, l: Call) -> Step
-    ensures { λ r. ⌜ statedStep r ≡ statedQuadruple (pair (i .0) (j .0)) (k .0) (l .0) q ⌝ }
+    ensures { λ r. ⌜ statedStep r ≡ statedQuadruple (i .0) (j .0) (k .0) (l .0) q ⌝ }
 {
     match q {
         Quadruple::Holds => Step::Passes,
@@ -65,9 +38,10 @@ fn call_failure(
     k: Lot,
     l: Call,
 ) -> Step
-    requires { ⌜ CanTest (now book) (now offsets) (i .0) (j .0) (k .0) (l .0) × (place < 65535) ⌝ }
+    requires { ⌜ CanScan (now book) (now offsets) (now places) place (i .0) (j .0)
+        × Eligible (problemOf (now book)) (k .0) (j .0) × (l .0 < problemOf (now book) .calls) ⌝ }
     ensures { λ r.
-        ⌜ TestedLater (now (book .entry)) (now (offsets .entry)) (now (places .entry)) place (i .0) (j .0) (k .0) (l .0) r ⌝ }
+        ⌜ statedStep r ≡ callAt (problemOf (now (book .entry))) (now (places .entry)) place (pair (i .0) (j .0)) (k .0) (l .0) ⌝ }
 {
     if book::inner::entry_of(places, i, l) <= place + 1 {
         return Step::Passes;
@@ -86,10 +60,10 @@ fn lot_failure(
     j: Call,
     k: Lot,
 ) -> Step
-    requires { ⌜ CanScanLot (now book) (now offsets) m place (i .0) (j .0) (k .0) ⌝ }
+    requires { ⌜ CanScan (now book) (now offsets) (now places) place (i .0) (j .0)
+        × (k .0 < problemOf (now book) .lots) × (m ≡ problemOf (now book) .calls) ⌝ }
     ensures { λ r.
-        ⌜ ((n : ℕ) → k .0 < n → statedStep r ≡ inTurn m 0 (quadrupleAt (now (book .entry)) (now (offsets .entry))
-        (now (places .entry)) n m place (pair (i .0) (j .0)) (k .0))) ⌝ }
+        ⌜ statedStep r ≡ inTurn m 0 (quadrupleAt (problemOf (now (book .entry))) (now (places .entry)) place (pair (i .0) (j .0)) (k .0)) ⌝ }
 {
     if book::inner::entry_of(places, k, j) <= place + 1 {
         return Step::Passes;
@@ -116,10 +90,11 @@ pub fn pair_failure(
     i: Lot,
     j: Call,
 ) -> Step
-    requires { ⌜ CanScan (now book) (now offsets) n m place (i .0) (j .0) ⌝ }
+    requires { ⌜ CanScan (now book) (now offsets) (now places) place (i .0) (j .0)
+        × (n ≡ problemOf (now book) .lots) × (m ≡ problemOf (now book) .calls) ⌝ }
     ensures { λ r.
-        ⌜ statedStep r ≡ inTurn n 0 (λ k. inTurn m 0 (quadrupleAt (now (book .entry)) (now (offsets .entry)) (now (places .entry))
-        n m place (pair (i .0) (j .0)) k)) ⌝ }
+        ⌜ statedStep r ≡ inTurn n 0 (λ k. inTurn m 0 (quadrupleAt (problemOf (now (book .entry))) (now (places .entry)) place
+        (pair (i .0) (j .0)) k)) ⌝ }
 {
     let mut k: usize = 0;
     while k < n {

@@ -11,10 +11,10 @@ use lib.Dec.{ltb}
 use lib.ListN.{length, take, drop, length-take, length-drop}
 use lib.Seq.{drop-drop}
 use Rattle.specification.specs.Reply.{Reply, gives, refuses, Size}
-use Rattle.specification.specs.Book.{rowWord, rowSize, bookLots, readBook, rowAt, lotCosts}
-use Rattle.book.specs.Pairs.{readable, rowStart}
+use Rattle.specification.specs.Book.{rowWord, rowSize, bookLots, readBook, rowAt, lotCosts, rowStart}
+use Rattle.book.specs.Pairs.{readable}
 use Rattle.book.proofs.Readable.{counts-are}
-use Rattle.book.proofs.Rows.{row-is, row-inside}
+use Rattle.specification.proofs.Starts.{row-is, row-inside}
 
 pub nil-of-length : (l : List ℕ) → length l ≡ 0 → l ≡ []
 nil-of-length [] e = refl

@@ -5,12 +5,14 @@ pub mod Numbers  -- little-endian numbers of a part of a file
 pub mod Bits  -- set bits of a word, and the book's test for 5
 pub mod Rows  -- what reading an opening, and one row, says
 pub mod Books  -- what reading a book says
+pub mod Starts  -- where a book holds a row and a cost
 pub mod LotCosts  -- the stretch of a lot's costs
 pub mod PairCosts  -- the cost of one pair
 pub mod AmountsFiles  -- what reading amounts says
 pub mod Lines  -- a refusal of a book or of amounts is a line of the table
 pub mod Holding  -- the check's first half: each eligible pair once
 pub mod Crossing  -- the check's second half: the quadruples
+pub mod Quadruples  -- what the test of one quadruple says
 pub mod Checks  -- what checking an order says
 pub mod OrderFiles  -- the file of a list of pairs, read back
 pub mod Flows  -- the flow that a run writes, and its sums

@@ -80,6 +80,15 @@ unfoldable pub rowAt : List ℕ → ℕ → List ℕ
 rowAt book zero = drop 7 book
 rowAt book (suc i) = drop (rowSize (rowAt book i)) (rowAt book i)
 
+-- the byte of the book at which that row starts
+unfoldable pub rowStart : List ℕ → ℕ → ℕ
+rowStart book zero = 7
+rowStart book (suc i) = rowStart book i + rowSize (rowAt book i)
+
+-- the byte at which the cost of (i, j) starts, behind the row's word and the costs of its lower set bits
+abbrev pub costStart : List ℕ → ℕ → ℕ → ℕ
+costStart book i j = rowStart book i + (4 + 4 * ones (rowWord (rowAt book i) % 2 ^ j))
+
 -- the book's transportation problem: n lots, m calls, (i, j) eligible where both are in the book and lot i's word has bit j, its cost;
 -- of a pair that is not eligible the cost means nothing
 unfoldable pub problemOf : List ℕ → Problem

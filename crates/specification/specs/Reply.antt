@@ -13,6 +13,8 @@ use Rattle.specification.specs.declared.Placed.{Placed}
 use Rattle.specification.specs.declared.Placed.the-variants as placed
 use Rattle.specification.specs.declared.Found.{Found}
 use Rattle.specification.specs.declared.Found.the-variants as found
+use Rattle.specification.specs.declared.Quadruple.{Quadruple}
+use Rattle.specification.specs.declared.Quadruple.the-variants as quadruple
 
 -- a value, or a refusal: its number in the table under "Refused", and the values returned with it
 pub data Reply (A : Type 0) : Type 0 where
@@ -106,3 +108,9 @@ statedPlaced (placed.Refused r) = refused r
 abbrev pub statedFound : Found → Reply ℕ
 statedFound (found.Length n) = gives n
 statedFound (found.Refused r) = refused r
+
+-- the test of (i, j) with lot k and call l passes, or is the check's 11 or 12 (document 02, request 3)
+abbrev pub statedQuadruple : ℕ → ℕ → ℕ → ℕ → Quadruple → Reply (Unit {0})
+statedQuadruple i j k l quadruple.Holds = gives tt
+statedQuadruple i j k l quadruple.NotEligible = refuses 11 (i ∷ j ∷ k ∷ l ∷ [])
+statedQuadruple i j k l quadruple.TooHigh = refuses 12 (i ∷ j ∷ k ∷ l ∷ [])

@@ -1,17 +1,19 @@
--- What the change requests (document 02) promise of their own entry points, as types. Above each part stands the sentence it is. A request
+-- What the change requests (document 02) promise of their own, as types. Above each part stands the sentence it is. A request
 -- that changes what document 01 has is in the definitions and the demands themselves: request 1 in `Ran` and `Verdicts`.
 use mathlib.Core.Path.{_≡_}
 use mathlib.Core.Logic.{_↔_}
-use mathlib.Core.List.{List, []}
-use Prim.Native.Nat.{ℕ, _*_, _≤_, _<_}
+use mathlib.Core.List.{List, [], _∷_}
+use Prim.Native.Nat.{ℕ, _+_, _*_, _≤_, _<_}
 use lib.ListN.{length}
-use Rattle.transport.specs.Problem.{units, totalCost, Allocation, MeetsCalls}
-use Rattle.transport.specs.Greedy.{Pair}
+use Rattle.transport.specs.Problem.{Eligible, units, totalCost, Allocation, MeetsCalls}
+use Rattle.transport.specs.Greedy.{Pair, pair}
 use Rattle.specification.specs.Reply.{gives, refuses, Size, Outcome, full, covered}
-use Rattle.specification.specs.Book.{problemOf}
+use Rattle.specification.specs.Bytes.{u32At}
+use Rattle.specification.specs.Book.{costStart, problemOf}
 use Rattle.specification.specs.Amounts.{readAmounts, lotAmount, callAmount}
+use Rattle.specification.specs.Check.{checkQuadruple}
 use Rattle.specification.specs.Idle.{enlarged, lotsTotal, callsTotal, findAndRunIdle}
-use Rattle.specification.specs.Demands.{RanIdle, Verdicts, GoodOrder}
+use Rattle.specification.specs.Demands.{Readable, RanIdle, Verdicts, GoodOrder}
 
 -- some allocation meets every real call
 abbrev pub SomeMeetsCalls : List ℕ → List ℕ → Type 0
@@ -66,3 +68,32 @@ pub record Request2 : Type 0 where
   -- and refused by 13 if none is
   pub or-13 : (book amounts flow : List ℕ) → Allowed book amounts flow → ((S : List Pair) → GoodOrder (enlarged book) S → ⊥)
       → findAndRunIdle book amounts flow ≡ refuses 13 []
+
+-- Request 3, the test of one quadruple: the pair (i, j) with lot k and call l. A cost "where the book holds [it]": the number in four bytes
+abbrev pub heldCost : List ℕ → ℕ → ℕ → ℕ
+heldCost book i j = u32At book (costStart book i j)
+
+-- "the cost sums are as the check asks": cost(i, j) + cost(k, l) ≤ cost(i, l) + cost(k, j) (document 01)
+abbrev pub SumsFit : List ℕ → ℕ → ℕ → ℕ → ℕ → Type 0
+SumsFit book i j k l = heldCost book i j + heldCost book k l ≤ heldCost book i l + heldCost book k j
+
+-- its answer "stated over the book's own bytes"
+pub record Tested (book : List ℕ) (i j k l : ℕ) : Type 0 where
+  -- it passes where "(k, l) is eligible and the cost sums are as the check asks"
+  pub holds : (checkQuadruple (problemOf book) (pair i j) k l ≡ gives tt) ↔ (Eligible (problemOf book) k l × SumsFit book i j k l)
+  -- it is 11 where (k, l) is not eligible
+  pub not-eligible : (checkQuadruple (problemOf book) (pair i j) k l ≡ refuses 11 (i ∷ j ∷ k ∷ l ∷ [])) ↔ (Eligible (problemOf book) k l → ⊥)
+  -- and 12 where it is, and the sum is too high
+  pub too-high : (checkQuadruple (problemOf book) (pair i j) k l ≡ refuses 12 (i ∷ j ∷ k ∷ l ∷ []))
+      ↔ (Eligible (problemOf book) k l × (SumsFit book i j k l → ⊥))
+
+pub record Request3 : Type 0 where
+  -- "for any three eligible pairs (i, j), (i, l), (k, j) of a readable book": k may be i, and l may be j
+  pub tested : (book : List ℕ) → Readable book → (i j k l : ℕ) → Eligible (problemOf book) i j → Eligible (problemOf book) i l
+      → Eligible (problemOf book) k j → Tested book i j k l
+  -- then it passes
+  pub own-lot : (book : List ℕ) (i j l : ℕ) → Eligible (problemOf book) i l → checkQuadruple (problemOf book) (pair i j) i l ≡ gives tt
+  pub own-call : (book : List ℕ) (i j k : ℕ) → Eligible (problemOf book) k j → checkQuadruple (problemOf book) (pair i j) k j ≡ gives tt
+  -- the four bytes of an eligible pair's cost stand in the book, and hold the cost of its problem
+  pub in-book : (book : List ℕ) → Readable book → (i j : ℕ) → Eligible (problemOf book) i j
+      → (costStart book i j + 4 ≤ length book) × (heldCost book i j ≡ problemOf book .cost i j)

@@ -80,3 +80,10 @@ pub enum Found {
     Length(usize),
     Refused(Refusal),
 }
+
+// What the test of one quadruple answers: "whether (k, l) is eligible and the cost sums are as the check asks" (document 02, request 3).
+pub enum Quadruple {
+    Holds,
+    NotEligible,
+    TooHigh,
+}

@@ -9,10 +9,10 @@ use lib.Count.{ones}
 use lib.ListN.{length, take, drop}
 use lib.Seq.{drop-drop}
 use Rattle.specification.specs.Reply.{gives, statedCounts}
-use Rattle.specification.specs.Book.{rowWord, rowSize, bookLots, readBook, rowAt, lotCosts}
-use Rattle.book.specs.Pairs.{rowStart}
+use Rattle.specification.specs.Book.{rowWord, rowSize, bookLots, readBook, rowAt, lotCosts, rowStart}
 use Rattle.book.proofs.Readable.{Read, counts-are}
-use Rattle.book.proofs.Rows.{row-is, part-is-row, row-inside}
+use Rattle.specification.proofs.Starts.{row-is, row-inside}
+use Rattle.book.proofs.Rows.{part-is-row}
 use Rattle.book.proofs.lot_costs.Statement.{statement}
 use Rattle.book.proofs.lot_costs.Tie as tie
 

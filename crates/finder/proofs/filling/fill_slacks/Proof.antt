@@ -4,7 +4,7 @@ use mathlib.Core.Path.{_≡_, refl, sym, _∙_}
 use Prim.Native.Nat.{_-_, _≤_}
 use native.Mathlib.Omega.{arith}
 use Rattle.transport.proofs.Finder.Same.{size-of-same}
-use Rattle.book.specs.Pairs.{rowStart}
+use Rattle.specification.specs.Book.{rowStart}
 use Rattle.book.proofs.Readable.{Read, counts-are}
 use Rattle.finder.specs.Filling.{AtLot}
 use Rattle.finder.proofs.Entering.{entered-none, filled-same, filled-slacks}

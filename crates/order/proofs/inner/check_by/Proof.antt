@@ -13,8 +13,6 @@ use Rattle.specification.specs.OrderFile.{orderCount}
 use Rattle.specification.specs.Check.{checkOrder}
 use Rattle.files.specs.Files.{statedStep}
 use Rattle.book.proofs.Readable.{Read, counts-are}
-use Rattle.book.proofs.Tables.{offsets-tabled, offsets-packed, offsets-worded}
-use Rattle.book.proofs.Counted.{book-counted}
 use Rattle.order.proofs.Agreeing.{whole-check}
 use Rattle.order.proofs.inner.check_by.Statement.{statement}
 use Rattle.order.proofs.inner.check_by.Tie as tie
@@ -74,29 +72,24 @@ check-pairs-requires : tie.Need-check-pairs-requires
 check-pairs-requires c κs =
     let e = c .before .before in
     let s = start (e .before .before .before) in
-    let read = known e in
-    let few = read .known .calls-within in
-    record {
-      tabled = rw (s .pre .1) (offsets-tabled (s .args .book .now) read);
-      packed = rw (s .pre .1) (offsets-packed (s .args .book .now) read (omega (arith, read .calls-is)) (omega (arith, read .calls-is)));
-      worded = rw (s .pre .1) (offsets-worded (s .args .book .now) read _ (c .before .row-starts .ensures));
-      counted = rw (s .pre .1) (book-counted (s .args .book .now) read);
-      sized = record {
+    let read = known e in (
+      record { reads = s .pre .0; offsets = s .pre .1; rows = c .before .row-starts .ensures },
+      record {
         order-long = e .before .if1 .left;
         few-pairs = omega arith;
         few-lots = omega (arith, read .lots-is, read .known .lots-within);
-        few-calls = omega (arith, read .calls-is);
-      };
-    }
+        few-calls = omega (arith, read .calls-is, read .known .calls-within);
+      },
+    )
 
 returns-4 : tie.Need-returns-4
 returns-4 c =
     let counted = c .before .before .before .before .before in
     let o = counted .before in
     let s = start o in
-    rw (s .pre .1, counted .u16-at .ensures) at (c .check-pairs .ensures)
-    ∙ whole-check (s .args .book .now) (s .args .order .now) (record { lots = s .args .n; calls = s .args .m }) (s .pre .0) (opens o)
-    (whole (c .before .before .before))
+    rw (counted .u16-at .ensures) at (c .check-pairs .ensures)
+    ∙ sym (whole-check (s .args .book .now) (s .args .order .now) (record { lots = s .args .n; calls = s .args .m }) (s .pre .0) (opens o)
+    (whole (c .before .before .before)))
 
 pub check-by-spec : {M : Type 1} → statement M
 check-by-spec =

@@ -1,7 +1,7 @@
 -- `order::inner::check_pairs` meets its contract: the parts' answers, one after another, are the specification's.
 use mathlib.Core.Path.{_≡_, sym, _∙_, ap}
 use mathlib.Core.List.{List, []}
-use Prim.Native.Nat.{_≤_}
+use Prim.Native.Nat.{ℕ, _+_, _*_, _≤_}
 use native.Mathlib.Omega.{arith}
 use borrow.Author.Needs.{needs}
 use lib.ListN.{length, drop}
@@ -9,94 +9,105 @@ use Rattle.transport.specs.Problem.{Problem}
 use Rattle.transport.specs.Greedy.{Pair}
 use Rattle.transport.specs.Finder.{size}
 use Rattle.specification.specs.Reply.{gives}
+use Rattle.specification.specs.Book.{problemOf}
 use Rattle.specification.specs.OrderFile.{pairs}
 use Rattle.specification.specs.Check.{checkPairs}
 use Rattle.files.specs.declared.Step.the-variants.{Passes}
 use Rattle.files.specs.Files.{statedStep}
-use Rattle.book.specs.Table.{problemBy}
+use Rattle.specification.proofs.Books.{admitted-inside}
+use Rattle.book.proofs.Counted.{book-counted}
 use Rattle.order.specs.Places.{rest}
 use Rattle.order.specs.Answers.{checkedPairs}
 use Rattle.order.proofs.Arrays.{shows-all}
-use Rattle.order.proofs.Settling.{rest-whole, rest-length, some-missing, none-missing, order-of-pairs}
+use Rattle.order.proofs.Agreeing.{pairs-by-table}
+use Rattle.order.proofs.Settling.{rest-whole, rest-length, some-missing, none-missing, order-of-pairs, read-held, same-held}
 use Rattle.order.proofs.Settling.{answer-refused, answer-missing, answer-settled}
 use Rattle.order.proofs.inner.check_pairs.Statement.{statement}
 use Rattle.order.proofs.inner.check_pairs.Tie as tie
 
 fill-places-requires : tie.Need-fill-places-requires
-fill-places-requires c κs = (c .before .before .before .pre .sized, shows-all (omega arith) (omega arith) 0)
+fill-places-requires c κs = (c .before .before .before .pre .1, shows-all (omega arith) (omega arith) 0)
 
-returns : tie.Need-returns
-returns c =
-    let a = c .before .before .before .before .before .before .before .args in
-    let P = problemBy (a .book .now) (a .offsets .now) (a .n) (a .m) in
-    let filled = c .before .before .before .fill-places in
-    c .answered .ensures
-    ∙ answer-refused P (rest (a .order .now) (a .count) 0) (a .count) (filled .result) (filled .ensures .says (a .book .now)) _
-    (c .before .enum-told2 .given .1)
-    ∙ ap (λ (U : List Pair). checkedPairs P U (a .count)) (rest-whole (a .order .now) (a .count))
-
--- no pair is refused
-module _ (c : tie.After-enum-told) where
+-- past the pairs' own tests, 9 and 10 by the table are those of the book
+module _ (c : tie.After-fill-places) where
   abbrev start : tie.Start
-  start = c .before .before .before .before .before .before
+  start = c .before .before .before .before
+
+  abbrev book : List ℕ
+  book = start .args .book .now
 
   abbrev P : Problem
-  P = problemBy (start .args .book .now) (start .args .offsets .now) (start .args .n) (start .args .m)
+  P = problemOf book
 
   abbrev S : List Pair
   S = rest (start .args .order .now) (start .args .count) 0
 
-  passes : c .before .before .fill-places .result ≡ Passes
-  passes = c .enum-told .given .1
-
-  says : statedStep (c .before .before .fill-places .result) ≡ checkPairs P [] 0 S
-  says = c .before .before .fill-places .ensures .says (start .args .book .now)
-
-  passed : checkPairs P [] 0 S ≡ gives tt
-  passed = sym says ∙ ap statedStep passes
+  says : statedStep (c .fill-places .result) ≡ checkPairs P [] 0 S
+  says =
+      let a = start .args in
+      let same = same-held book (a .offsets .now) (a .starts .now) (a .n) (a .m) (start .pre .0) in
+      c .fill-places .ensures .says book ∙ pairs-by-table book (a .offsets .now) (a .n) (a .m) same [] 0 S
 
   long : length S ≡ start .args .count
   long = rest-length (start .args .order .now) (start .args .count)
+
+  -- the book's length counts the eligible pairs
+  counted : length book ≡ 7 + 4 * start .args .n + 4 * size P
+  counted = let a = start .args in book-counted book (read-held book (a .offsets .now) (a .starts .now) (a .n) (a .m) (start .pre .0))
 
   whole-is : checkedPairs P S (start .args .count)
       ≡ checkedPairs P (pairs (start .args .count) (drop 7 (start .args .order .now))) (start .args .count)
   whole-is = ap (λ (U : List Pair). checkedPairs P U (start .args .count)) (rest-whole (start .args .order .now) (start .args .count))
 
+returns : tie.Need-returns
+returns c =
+    let f = c .before .before .before in
+    c .answered .ensures ∙ answer-refused (P f) (S f) (start f .args .count) _ (says f) _ (c .before .enum-told2 .given .1) ∙ whole-is f
+
+-- no pair is refused
+module _ (c : tie.After-enum-told) where
+  abbrev filled : tie.After-fill-places
+  filled = c .before .before
+
+  passes : filled .fill-places .result ≡ Passes
+  passes = c .enum-told .given .1
+
+  passed : checkPairs (P filled) [] 0 (S filled) ≡ gives tt
+  passed = sym (says filled) ∙ ap statedStep passes
+
 -- as many are listed as are eligible
-enough : (c : tie.Else1) → size (P (c .before)) ≤ length (S (c .before))
-enough c = omega (arith, long (c .before), start (c .before) .pre .counted, c .if1 .left)
+enough : (c : tie.Else1) → size (P (filled (c .before))) ≤ length (S (filled (c .before)))
+enough c = let f = filled (c .before) in omega (arith, long f, counted f, c .if1 .left)
 
 returns-2 : tie.Need-returns-2
 returns-2 c =
     let t = c .before in
-    let a = start t .args in
-    answer-missing (P t) (S t) (a .count) _ (says t) (passes t)
-    (some-missing (a .book .now) (a .offsets .now) (a .n) (a .m) (S t) (passed t) (omega (arith, long t, start t .pre .counted)))
-    ∙ whole-is t
+    let f = filled t in
+    answer-missing (P f) (S f) (start f .args .count) _ (says f) (passes t)
+    (some-missing (P f) (admitted-inside (book f)) (S f) (passed t) (omega (arith, long f, counted f)))
+    ∙ whole-is f
 
 settle-requires : tie.Need-settle-requires
 settle-requires c κs =
     let t = c .before .before in
-    let a = start t .args in
+    let f = filled t in
     record {
-      tabled = start t .pre .tabled;
-      packed = start t .pre .packed;
-      worded = start t .pre .worded;
-      sized = start t .pre .sized;
-      each-once = order-of-pairs (a .book .now) (a .offsets .now) (a .n) (a .m) (S t) (passed t) (enough (c .before));
-      shows = t .before .before .fill-places .ensures .shows (passes t);
+      held = start f .pre .0;
+      sized = start f .pre .1;
+      each-once = order-of-pairs (P f) (admitted-inside (book f)) (S f) (passed t) (enough (c .before));
+      shows = f .fill-places .ensures .shows (passes t);
     }
 
 returns-3 : tie.Need-returns-3
 returns-3 c =
     let e = c .before .before .before in
     let t = e .before in
-    let a = start t .args in
+    let f = filled t in
     c .answered2 .ensures
-    ∙ answer-settled (P t) (S t) (a .count) _ (says t) (passes t)
-    (none-missing (a .book .now) (a .offsets .now) (a .n) (a .m) (S t) (passed t) (enough e))
+    ∙ answer-settled (P f) (S f) (start f .args .count) _ (says f) (passes t)
+    (none-missing (P f) (admitted-inside (book f)) (S f) (passed t) (enough e))
     (c .before .settle .result) (c .before .settle .ensures)
-    ∙ whole-is t
+    ∙ whole-is f
 
 pub check-pairs-spec : {M : Type 1} → statement M
 check-pairs-spec =

@@ -3,7 +3,7 @@
 use mathlib.Core.Path.{sym}
 use Prim.Native.Nat.{_<_}
 use native.Mathlib.Omega.{arith}
-use Rattle.order.proofs.Settling.{walkable, scannable, lowest, settled-whole, settled-at}
+use Rattle.order.proofs.Settling.{same-held, walkable, scannable, lowest, settled-whole, settled-at}
 use Rattle.order.proofs.inner.settle.Statement.{statement}
 use Rattle.order.proofs.inner.settle.Tie as tie
 
@@ -44,8 +44,12 @@ pair-failure-requires : tie.Need-pair-failure-requires
 pair-failure-requires c κs =
     let found = c .before .before in
     let a = start found .args in
-    scannable (a .book .now) (a .offsets .now) (a .starts .now) (a .places .now) (a .order .now) (a .count) (a .n) (a .m) (start found .pre)
-    (found .before .walk .result) _ _ (within found) (c .before .lot-at .ensures) (c .call-at .ensures)
+    let same = same-held (a .book .now) (a .offsets .now) (a .starts .now) (a .n) (a .m) (start found .pre .held) in (
+      scannable (a .book .now) (a .offsets .now) (a .starts .now) (a .places .now) (a .order .now) (a .count) (a .n) (a .m) (start found .pre)
+          (found .before .walk .result) _ _ (within found) (c .before .lot-at .ensures) (c .call-at .ensures),
+      same .lots,
+      same .calls,
+    )
 
 returns-2 : tie.Need-returns-2
 returns-2 c =

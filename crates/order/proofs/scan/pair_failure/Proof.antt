@@ -4,6 +4,7 @@ use Prim.Native.Nat.{_≤_, _-_}
 use native.Mathlib.Omega.{arith}
 use borrow.Author.Needs.{needs}
 use Rattle.transport.specs.Greedy.{pair}
+use Rattle.specification.specs.Book.{problemOf}
 use Rattle.specification.specs.Check.{inTurn}
 use Rattle.order.specs.Answers.{quadrupleAt}
 use Rattle.order.proofs.Scanning.{turn-begins, turn-goes-on, turn-stops, turn-ends}
@@ -13,8 +14,8 @@ use Rattle.order.proofs.scan.pair_failure.Tie as tie
 abbrev Inv-loop : tie.InvT-loop
 Inv-loop book offsets places n m place i j k₀ k =
     (k ≤ n)
-    × (inTurn n 0 (λ o. inTurn m 0 (quadrupleAt book offsets places n m place (pair (i .0) (j .0)) o))
-    ≡ inTurn (n - k) k (λ o. inTurn m 0 (quadrupleAt book offsets places n m place (pair (i .0) (j .0)) o)))
+    × (inTurn n 0 (λ o. inTurn m 0 (quadrupleAt (problemOf book) places place (pair (i .0) (j .0)) o))
+    ≡ inTurn (n - k) k (λ o. inTurn m 0 (quadrupleAt (problemOf book) places place (pair (i .0) (j .0)) o)))
 
 abbrev μ-loop : tie.MeasureT-loop
 μ-loop book offsets places n m place i j k₀ k = n - k
@@ -24,22 +25,14 @@ loop-holds c = (omega arith, turn-begins _ _)
 
 lot-failure-requires : tie.Need-lot-failure-requires Inv-loop μ-loop
 lot-failure-requires c κs =
-    let pre = c .before .before .before .pre in
-    record {
-      tabled = pre .tabled;
-      few-calls = pre .few-calls;
-      few-pairs = pre .few-pairs;
-      lot-in = omega arith;
-      call-in = pre .call-in;
-      other-in = omega arith;
-    }
+    let pre = c .before .before .before .pre in (pre .0, omega (arith, pre .1), pre .2)
 
 returns : tie.Need-returns Inv-loop μ-loop
 returns c =
     let found = c .before .before in
     let l = found .before .before .loop in
     let here = found .before .loop-test .taken in
-    sym (l .inv .1 ∙ turn-stops _ _ _ _ (l .k) here (found .lot-failure .ensures _ here) (c .enum-told2 .given .1))
+    sym (l .inv .1 ∙ turn-stops _ _ _ _ (l .k) here (found .lot-failure .ensures) (c .enum-told2 .given .1))
 
 loop-again : tie.Need-loop-again Inv-loop μ-loop
 loop-again c =
@@ -47,7 +40,7 @@ loop-again c =
     let l = found .before .before .loop in
     let here = found .before .loop-test .taken in (
       omega arith,
-      l .inv .1 ∙ turn-goes-on _ _ _ (l .k) here (found .lot-failure .ensures _ here) (c .enum-told .given .1),
+      l .inv .1 ∙ turn-goes-on _ _ _ (l .k) here (found .lot-failure .ensures) (c .enum-told .given .1),
     )
 
 returns-2 : tie.Need-returns-2 Inv-loop μ-loop

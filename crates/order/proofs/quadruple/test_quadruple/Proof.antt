@@ -1,0 +1,61 @@
+-- `order::quadruple::test_quadruple` meets its contract: each return is one answer of `checkQuadruple`.
+use mathlib.Core.Path.{_≡_, sym, _∙_}
+use native.Mathlib.Omega.{arith}
+use borrow.Author.Needs.{needs}
+use Rattle.book.specs.Table.{entry}
+use Rattle.order.proofs.Testing.{lots-in, calls-in, tabled, told-not-eligible, told-too-high, told-holds}
+use Rattle.order.proofs.quadruple.test_quadruple.Statement.{statement}
+use Rattle.order.proofs.quadruple.test_quadruple.Tie as tie
+
+entry-of-requires : tie.Need-entry-of-requires
+entry-of-requires c κs = let pre = c .before .pre in (lots-in pre .1, calls-in pre .1)
+
+returns : tie.Need-returns
+returns c = told-not-eligible (c .before .before .before .pre) (sym (c .before .entry-of .ensures) ∙ c .if1 .taken)
+
+-- (k, l) has an offset
+module _ (c : tie.Else1) where
+  abbrev start : tie.Start
+  start = c .before .before .before
+
+  some : entry (start .args .offsets .now) (start .args .k .0) (start .args .l .0) ≡ 0 → ⊥
+  some e = c .if1 .left (c .before .entry-of .ensures ∙ e)
+
+cost-of-requires : tie.Need-cost-of-requires
+cost-of-requires c κs = let pre = start c .pre in record { tabled = tabled pre; lot-in = lots-in pre .0; call-in = calls-in pre .0 }
+
+cost-of-requires-2 : tie.Need-cost-of-requires-2
+cost-of-requires-2 c κs = let pre = start (c .before) .pre in record { tabled = tabled pre; lot-in = lots-in pre .1; call-in = calls-in pre .1 }
+
+cost-of-requires-3 : tie.Need-cost-of-requires-3
+cost-of-requires-3 c κs =
+    let pre = start (c .before .before) .pre in record { tabled = tabled pre; lot-in = lots-in pre .0; call-in = calls-in pre .1 }
+
+cost-of-requires-4 : tie.Need-cost-of-requires-4
+cost-of-requires-4 c κs =
+    let pre = start (c .before .before .before) .pre in record { tabled = tabled pre; lot-in = lots-in pre .1; call-in = calls-in pre .0 }
+
+returns-2 : tie.Need-returns-2
+returns-2 c = let e = c .before .before .before .before .before in told-too-high (start e .pre) (some e) (omega arith)
+
+returns-3 : tie.Need-returns-3
+returns-3 c = let e = c .before .before .before .before .before in told-holds (start e .pre) (some e) (omega arith)
+
+pub test-quadruple-spec : {M : Type 1} → statement M
+test-quadruple-spec =
+    tie.close
+    (tie.spec
+    entry-of-requires
+    returns
+    cost-of-requires
+    (λ c. search needs)
+    cost-of-requires-2
+    (λ c. search needs)
+    cost-of-requires-3
+    (λ c. search needs)
+    cost-of-requires-4
+    (λ c. search needs)
+    (λ c. search needs)
+    (λ c. search needs)
+    returns-2
+    returns-3)
