@@ -13,7 +13,7 @@ use lib.ListN.{length, length-drop}
 use Rattle.transport.specs.Problem.{sum}
 use Rattle.transport.specs.Finder.{size}
 use Rattle.transport.proofs.Laws.Sums.{sum-cong}
-use Rattle.specification.specs.Book.{bit, rowWord, bookLots, bookCalls, rowAt, problemOf, rowStart}
+use Rattle.specification.specs.Book.{bit, rowWord, bookLots, bookCalls, rowAt, rowStart, problemOf}
 use Rattle.book.specs.Pairs.{onesBelow}
 use Rattle.book.proofs.Bits.{ones-below-none, ones-below-set, ones-below-unset}
 use Rattle.book.proofs.Readable.{Read}

@@ -12,7 +12,7 @@ use lib.Arith.{lt-of-le-ne}
 use lib.Dec.{ltb}
 use lib.ListN.{length, getD, replicate, length-replicate, getD-replicate}
 use lib.Seq.{ext-getD}
-use Rattle.specification.specs.Book.{bit, rowWord, bookLots, bookCalls, rowAt, problemOf, rowStart}
+use Rattle.specification.specs.Book.{bit, rowWord, bookLots, bookCalls, rowAt, rowStart, problemOf}
 use Rattle.specification.proofs.Flows.{length-tabulate, tabulate-at}
 use Rattle.files.proofs.Parts.{le-or-lt}
 use Rattle.book.specs.Pairs.{readable, onesBelow, costOffset, offsetTable}

@@ -3,7 +3,7 @@
 -- book's own eligible pairs and their costs (`problem-same`).
 use mathlib.Core.Path.{_≡_, refl, sym, ap, _∙_, subst}
 use mathlib.Core.Logic.{by-cases}
-use mathlib.Core.Bool.{Bool, true, false, cond, not, _&&_}
+use mathlib.Core.Bool.{Bool, true, false, cond, not}
 use mathlib.Core.List.{List}
 use Prim.Native.Nat.{ℕ, zero, suc, _+_, _*_, _-_, _/_, _%_, _≤_, _<_}
 use native.Mathlib.Decide.{ℕ-discrete}
@@ -12,16 +12,16 @@ use borrow.Author.Tests.{lt-ltb, ne-eqb}
 use lib.Dec.{T, eqb, ltb, lt→ltb}
 use lib.ListN.{length, getD}
 use Rattle.transport.specs.Problem.{Eligible}
-use Rattle.transport.proofs.Laws.Tests.{T-true, and-says, counted-of, counted-says}
+use Rattle.transport.proofs.Laws.Tests.{T-true, counted-of, counted-says}
 use Rattle.transport.proofs.Finder.Same.{Same}
 use Rattle.specification.specs.Bytes.{u32At}
-use Rattle.specification.specs.Book.{costLimit, bit, rowWord, bookLots, bookCalls, rowAt, problemOf, rowStart}
+use Rattle.specification.specs.Book.{costLimit, bit, rowWord, bookLots, rowAt, rowStart, problemOf}
 use Rattle.specification.proofs.Numbers.{u32-drop}
 use Rattle.specification.proofs.Flows.{tabulate-at}
 use Rattle.specification.proofs.Books.{admitted-inside, cost-within}
 use Rattle.book.specs.Pairs.{hasCost, onesBelow, costOffset, offsetTable}
 use Rattle.book.specs.Table.{entry, admitsBy, problemBy, Tabled, Packed, Worded}
-use Rattle.book.proofs.Bits.{ones-below-none, ones-below-set, ones-below-all, ones-below-full, bit-of-full}
+use Rattle.book.proofs.Bits.{ones-below-none, ones-below-full, bit-of-full}
 use Rattle.book.proofs.Readable.{Read}
 use Rattle.specification.proofs.Starts.{row-is, row-inside, cost-inside}
 use Rattle.book.proofs.Offsets.{entry-is, entry-admits, entry-cost}

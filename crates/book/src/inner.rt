@@ -10,7 +10,7 @@ ghost use lib.Dec.{leb};
 ghost use lib.ListN.{length, drop, getD};
 ghost use Rattle.transport.specs.Finder.{every, size};
 ghost use Rattle.specification.specs.Bytes.{u32At};
-ghost use Rattle.specification.specs.Book.{bookLots, rowCost, problemOf, rowStart};
+ghost use Rattle.specification.specs.Book.{rowCost, bookLots, rowStart, problemOf};
 ghost use Rattle.book.specs.Pairs.{readable, offsetTable};
 ghost use Rattle.book.specs.Table.{entry, admitsBy, CanRead, WithRow, SetFrom};
 

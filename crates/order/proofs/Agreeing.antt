@@ -1,6 +1,6 @@
 -- The table of offsets admits the book's own pairs, so 9 and 10 by it are the specification's (`pairs-by-table`); past the tests of the files
 -- the check of an order is that of its pairs (`whole-check`).
-use mathlib.Core.Path.{_≡_, refl, sym}
+use mathlib.Core.Path.{_≡_, refl}
 use mathlib.Core.List.{List, [], _∷_}
 use Prim.Native.Nat.{ℕ, suc, _+_, _*_}
 use native.Mathlib.Omega.{arith}

@@ -1,10 +1,10 @@
 -- What a table's entry says of a pair.
 use mathlib.Core.Path.{_≡_, sym, subst}
-use mathlib.Core.Bool.{true, false, not, _&&_, and-false}
+use mathlib.Core.Bool.{true, not, _&&_}
 use mathlib.Core.List.{List}
 use Prim.Native.Nat.{ℕ, _+_, _*_, _≤_, _<_}
 use native.Mathlib.Omega.{arith}
-use borrow.Author.Tests.{lt-ltb, eq-eqb, ne-eqb}
+use borrow.Author.Tests.{eq-eqb}
 use lib.Dec.{T, T-not, ltb, eqb, ltb→lt}
 use Rattle.transport.proofs.Laws.Tests.{T-true, and-says}
 use Rattle.transport.specs.Problem.{Eligible}
@@ -12,13 +12,7 @@ use Rattle.transport.proofs.Finder.Gaps.{Bounded}
 use Rattle.specification.specs.Book.{costLimit}
 use Rattle.book.specs.Table.{entry, admitsBy, problemBy, Tabled}
 
-module _ (book table : List ℕ) (n m : ℕ) (k l : ℕ) where
-  pub not-admitted : entry table k l ≡ 0 → problemBy book table n m .admits k l ≡ false
-  not-admitted e = simp (eq-eqb _ _ e, and-false)
-
-  pub admitted : k < n → l < m → (entry table k l ≡ 0 → ⊥) → problemBy book table n m .admits k l ≡ true
-  admitted hk hl h = simp (lt-ltb _ _ hk, lt-ltb _ _ hl, ne-eqb _ _ h)
-
+-- a pair that the table admits is among its lots and calls and has an offset
 pub admitted-in : (table : List ℕ) (n m k l : ℕ) → admitsBy table n m k l ≡ true → (k < n) × (l < m) × (entry table k l ≡ 0 → ⊥)
 admitted-in table n m k l e =
     let t : T (admitsBy table n m k l) = subst T (sym e) tt in

@@ -7,14 +7,13 @@ use native.Mathlib.Omega.{arith}
 use Rattle.transport.specs.Problem.{Problem, Eligible}
 use Rattle.transport.specs.Greedy.{pair}
 use Rattle.transport.proofs.Laws.Tests.{T-true}
-use Rattle.specification.specs.Reply.{gives, refuses, Size}
+use Rattle.specification.specs.Reply.{gives, refuses}
 use Rattle.specification.specs.Bytes.{u32At}
 use Rattle.specification.specs.Book.{problemOf}
 use Rattle.specification.specs.Check.{checkQuadruple}
 use Rattle.specification.specs.Demands.{Readable}
 use Rattle.specification.proofs.Quadruples.{quadruple-not-eligible, quadruple-too-high, quadruple-holds}
-use Rattle.book.specs.Pairs.{offsetTable}
-use Rattle.book.specs.Table.{entry, Tabled, CanRead}
+use Rattle.book.specs.Table.{entry, Tabled}
 use Rattle.book.proofs.Readable.{Read, counts-are}
 use Rattle.book.proofs.Tables.{lot-few, call-few, cost-at, eligible-at, not-eligible-at, offsets-tabled}
 use Rattle.order.specs.Asked.{CanTest}
@@ -37,11 +36,13 @@ module _ {book table : List ℕ} {i j k l : ℕ} (c : CanTest book table i j k l
   abbrev read : Read book (c .readable .0 .lots) (c .readable .0 .calls)
   read = read-so book (c .readable)
 
-  pub lots-in : (i < 32) × (k < 32)
-  lots-in = (lot-in book (c .readable) i (c .own .0), lot-in book (c .readable) k (c .by-call .0))
-
-  pub calls-in : (j < 32) × (l < 32)
-  calls-in = (call-in book (c .readable) j (c .own .1), call-in book (c .readable) l (c .by-lot .1))
+  pub all-in : (i < 32) × (j < 32) × (k < 32) × (l < 32)
+  all-in = (
+    lot-in book (c .readable) i (c .own .0),
+    call-in book (c .readable) j (c .own .1),
+    lot-in book (c .readable) k (c .by-call .0),
+    call-in book (c .readable) l (c .by-lot .1),
+  )
 
   pub tabled : Tabled book table
   tabled = rw (c .offsets) (offsets-tabled book read)
@@ -49,12 +50,12 @@ module _ {book table : List ℕ} {i j k l : ℕ} (c : CanTest book table i j k l
   -- an offset of 0
   pub told-not-eligible : entry table k l ≡ 0 → refuses 11 (i ∷ j ∷ k ∷ l ∷ []) ≡ checkQuadruple P (pair i j) k l
   told-not-eligible none = quadruple-not-eligible P (pair i j) k l
-      (not-eligible-at book read k l (lots-in .1) (calls-in .1) (rw (c .offsets) at none))
+      (not-eligible-at book read k l (all-in .2) (all-in .3) (rw (c .offsets) at none))
 
   -- and another: all four pairs are eligible
   module _ (some : entry table k l ≡ 0 → ⊥) where
     other : Eligible P k l
-    other = eligible-at book read k l (lots-in .1) (calls-in .1) (λ e. some (rw (c .offsets) e))
+    other = eligible-at book read k l (all-in .2) (all-in .3) (λ e. some (rw (c .offsets) e))
 
     abbrev cost : ℕ → ℕ → ℕ
     cost a b = u32At book (entry table a b)

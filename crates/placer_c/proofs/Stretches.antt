@@ -11,7 +11,7 @@ use lib.Dec.{ltb}
 use lib.ListN.{length, take, drop, length-take, length-drop}
 use lib.Seq.{drop-drop}
 use Rattle.specification.specs.Reply.{Reply, gives, refuses, Size}
-use Rattle.specification.specs.Book.{rowWord, rowSize, bookLots, readBook, rowAt, lotCosts, rowStart}
+use Rattle.specification.specs.Book.{rowWord, rowSize, bookLots, readBook, rowAt, rowStart, lotCosts}
 use Rattle.book.specs.Pairs.{readable}
 use Rattle.book.proofs.Readable.{counts-are}
 use Rattle.specification.proofs.Starts.{row-is, row-inside}

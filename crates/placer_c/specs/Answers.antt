@@ -5,7 +5,7 @@ use Prim.Native.Nat.{ℕ, _+_}
 use lib.ListN.{length, getD}
 use lib.Dec.{eqb}
 use Rattle.specification.specs.Reply.{Reply, gives, refuses, Size, Verdict, full, covered, short, Outcome}
-use Rattle.specification.specs.Book.{lotCosts, PairCost, costs, notEligible, outside, rowStart}
+use Rattle.specification.specs.Book.{rowStart, lotCosts, PairCost, costs, notEligible, outside}
 use Rattle.placer_c.specs.declared.Answer.{Answer}
 use Rattle.placer_c.specs.declared.Stretch.{Stretch}
 

@@ -12,7 +12,7 @@ use Rattle.transport.specs.Order.{times}
 use Rattle.transport.specs.Finder.{every, first, takeFrom}
 use Rattle.specification.specs.Reply.{gives, refuses, full, covered, short}
 use Rattle.specification.specs.Bytes.{u16At, u32At, bookMark, amountsMark, readOpening}
-use Rattle.specification.specs.Book.{readCosts, readRow, readRows, readBook, rowAt, problemOf, lotCosts}
+use Rattle.specification.specs.Book.{readCosts, readRow, readRows, readBook, rowAt, rowStart, costStart, problemOf, lotCosts}
 use Rattle.specification.specs.OrderFile.{pairs, pairBytes, orderFile}
 use Rattle.specification.specs.Check.{checkPairs, checkQuadruple, inTurn, checkMonge, checkOrder}
 use Rattle.specification.specs.Amounts.{readAmountsOf, readAmounts}
@@ -20,6 +20,7 @@ use Rattle.specification.specs.Run.{tabulate, flowOf, runOrder, runFlow}
 use Rattle.specification.specs.Find.{foundOrder, findOrder, findBuffer, foundToRun, findAndRun, findAndRunFlow}
 use Rattle.specification.specs.Idle.{foundToRunIdle, findAndRunIdle, findAndRunIdleFlow}
 use Rattle.specification.specs.Text.{digits, line, pairLines, textOf, printed}
+use Rattle.specification.specs.Requests.{heldCost}
 use Rattle.specification.specs.Examples.{words, book, amounts, book1235, amounts5436, bookGap, bookDiagonal}
 
 -- 1,000,000 and 1,000,001 as costs, 1,000,000,000 and 1,000,000,001 as amounts
@@ -274,3 +275,28 @@ idle-cases =
       amounts-before-18 = refl;
       kept = refl;
     }
+
+-- Request 3. 2 by 4, rows - 7 - 9 / 1 2 - 3 (- not eligible)
+abbrev pub bookSteps : List ℕ
+bookSteps = book 2 4 (10 ∷ 7 ∷ 9 ∷ 11 ∷ 1 ∷ 2 ∷ 3 ∷ [])
+
+pub record QuadrupleCases : Type 0 where
+  -- 7 + 3 ≤ 9 + 2, and not 9 + 2 ≤ 7 + 3; where (k, l) is not eligible, 11 (F6)
+  pub holds : checkQuadruple (problemOf bookSteps) (pair 0 1) 1 3 ≡ gives tt
+  pub too-high : checkQuadruple (problemOf bookSteps) (pair 0 3) 1 1 ≡ refuses 12 (0 ∷ 3 ∷ 1 ∷ 1 ∷ [])
+  pub not-eligible : checkQuadruple (problemOf bookGap) (pair 0 0) 1 1 ≡ refuses 11 (0 ∷ 0 ∷ 1 ∷ 1 ∷ [])
+  -- the row of lot 1 starts at byte 19, and its cost for call 3 is the third
+  pub row-starts : rowStart bookSteps 1 ≡ 19
+  pub cost-starts : costStart bookSteps 1 3 ≡ 31
+  pub cost-held : heldCost bookSteps 1 3 ≡ 3
+
+pub quadruple-cases : QuadrupleCases
+unfolding u16At u32At rowAt rowStart problemOf checkQuadruple ones onesIn
+quadruple-cases = record {
+  holds = refl;
+  too-high = refl;
+  not-eligible = refl;
+  row-starts = refl;
+  cost-starts = refl;
+  cost-held = refl;
+}

@@ -1,5 +1,5 @@
--- The demands' hypotheses are met, by the books and amounts of F1, F8, F9 and F10, and those of request 2 by computed cases: they speak of
--- something.
+-- The demands' hypotheses are met, by the books and amounts of F1, F8, F9 and F10, and those of requests 2 and 3 by computed cases: they speak
+-- of something.
 use mathlib.Core.Path.{_≡_, refl, sym, _∙_}
 use mathlib.Core.Logic.{inr, ⊎-elim}
 use mathlib.Core.List.{List, [], _∷_}
@@ -7,7 +7,7 @@ use Prim.Native.Nat.{ℕ, _≤_}
 use native.Mathlib.Omega.{arith}
 use lib.Count.{ones, onesIn}
 use lib.ListN.{length, replicate}
-use Rattle.transport.specs.Problem.{sum, Meets, MeetsCalls}
+use Rattle.transport.specs.Problem.{Eligible, sum, Meets, MeetsCalls}
 use Rattle.transport.specs.Greedy.{Pair}
 use Rattle.transport.specs.Finder.{every}
 use Rattle.specification.specs.Reply.{gives, full, covered, Outcome}
@@ -21,8 +21,9 @@ use Rattle.specification.specs.Demands.{Readable, Passing, GoodOrder, re
 use Rattle.specification.specs.Idle.{enlarged}
 use Rattle.specification.specs.Requests.{SomeMeetsCalls, Allowed, IdleRun}
 use Rattle.specification.specs.Examples.{amounts, book1235, amounts5436, bookGap, bookEmpty, bookDiagonal, known-examples}
-use Rattle.specification.proofs.AllCases.{bookCorners, bookSpare, amountsSpare, idle-cases}
+use Rattle.specification.proofs.AllCases.{bookCorners, bookSpare, amountsSpare, idle-cases, bookSteps}
 use Rattle.specification.proofs.Replies.{not-both}
+use Rattle.specification.proofs.Books.{admitted-inside}
 use Rattle.specification.proofs.Verdicts.{short-not-full, short-not-covered}
 use Rattle.specification.proofs.IdleRuns.{request2}
 use Rattle.specification.proofs.Demands.{demand2, demand3}
@@ -48,7 +49,12 @@ amounts8 = amounts 2 2 (2 ∷ 0 ∷ 1 ∷ 0 ∷ [])
 abbrev amounts10 : List ℕ
 amounts10 = amounts 1 1 (1 ∷ 1 ∷ [])
 
--- what demands 2 and 3 and request 2 assume, each met
+-- three eligible pairs (i, j), (i, l), (k, j) of a readable book
+abbrev ThreeEligible : List ℕ → ℕ → ℕ → ℕ → ℕ → Type 0
+ThreeEligible book i j k l =
+    Readable book × Eligible (problemOf book) i j × Eligible (problemOf book) i l × Eligible (problemOf book) k j
+
+-- what demands 2 and 3 and requests 2 and 3 assume, each met
 pub record NotVacuous : Type 0 where
   -- a readable book, a buffer long enough, and an order returned
   pub readable : Readable book1235
@@ -72,6 +78,10 @@ pub record NotVacuous : Type 0 where
   -- and a book with an order, whose enlarged book has none that is good, where no other refusal applies
   pub idle-none-good : Allowed bookCorners (amounts 3 2 (replicate 5 0)) (replicate 6 8)
       × ((S : List Pair) → GoodOrder (enlarged bookCorners) S → ⊥)
+  -- three eligible pairs of a readable book, for each answer of the test of a quadruple (`quadruple-cases`)
+  pub quadruple-holds : ThreeEligible bookSteps 0 1 1 3
+  pub quadruple-too-high : ThreeEligible bookSteps 0 3 1 1
+  pub quadruple-not-eligible : ThreeEligible bookGap 0 0 1 1
 
 length-1235 : orderLength book1235 ≡ 15
 unfolding problemOf rowAt u16At u32At sum ones
@@ -88,6 +98,18 @@ reads-1235 = refl
 reads-diagonal : readBook bookDiagonal ≡ gives (record { lots = 3; calls = 3 })
 unfolding u16At u32At readOpening readCosts readRow readRows readBook ones onesIn
 reads-diagonal = refl
+
+three-1-3 : ThreeEligible bookSteps 0 1 1 3
+unfolding u16At u32At readOpening readCosts readRow readRows readBook rowAt problemOf ones onesIn
+three-1-3 = ((_, refl), admitted-inside bookSteps 0 1 tt, admitted-inside bookSteps 0 3 tt, admitted-inside bookSteps 1 1 tt)
+
+three-3-1 : ThreeEligible bookSteps 0 3 1 1
+unfolding problemOf rowAt u16At u32At ones
+three-3-1 = (three-1-3 .0, three-1-3 .2, three-1-3 .1, admitted-inside bookSteps 1 3 tt)
+
+three-gap : ThreeEligible bookGap 0 0 1 1
+unfolding u16At u32At readOpening readCosts readRow readRows readBook rowAt problemOf ones onesIn
+three-gap = ((_, refl), admitted-inside bookGap 0 0 tt, admitted-inside bookGap 0 1 tt, admitted-inside bookGap 1 0 tt)
 
 reads-amounts : readAmounts book1235 amounts5436 ≡ gives (record { lots = 2; calls = 2 })
 unfolding readAmounts readAmountsOf u16At u32At readOpening every
@@ -137,4 +159,7 @@ not-vacuous =
         idle-allowed,
         λ S good. not-both (request2 .finds bookCorners _ _ idle-allowed S good .1) (idle-cases .no-order),
       );
+      quadruple-holds = three-1-3;
+      quadruple-too-high = three-3-1;
+      quadruple-not-eligible = three-gap;
     }

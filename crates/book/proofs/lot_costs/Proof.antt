@@ -9,7 +9,7 @@ use lib.Count.{ones}
 use lib.ListN.{length, take, drop}
 use lib.Seq.{drop-drop}
 use Rattle.specification.specs.Reply.{gives, statedCounts}
-use Rattle.specification.specs.Book.{rowWord, rowSize, bookLots, readBook, rowAt, lotCosts, rowStart}
+use Rattle.specification.specs.Book.{rowWord, rowSize, bookLots, readBook, rowAt, rowStart, lotCosts}
 use Rattle.book.proofs.Readable.{Read, counts-are}
 use Rattle.specification.proofs.Starts.{row-is, row-inside}
 use Rattle.book.proofs.Rows.{part-is-row}

@@ -3,12 +3,12 @@ use mathlib.Core.Path.{_≡_, sym, _∙_}
 use native.Mathlib.Omega.{arith}
 use borrow.Author.Needs.{needs}
 use Rattle.book.specs.Table.{entry}
-use Rattle.order.proofs.Testing.{lots-in, calls-in, tabled, told-not-eligible, told-too-high, told-holds}
+use Rattle.order.proofs.Testing.{all-in, tabled, told-not-eligible, told-too-high, told-holds}
 use Rattle.order.proofs.quadruple.test_quadruple.Statement.{statement}
 use Rattle.order.proofs.quadruple.test_quadruple.Tie as tie
 
 entry-of-requires : tie.Need-entry-of-requires
-entry-of-requires c κs = let pre = c .before .pre in (lots-in pre .1, calls-in pre .1)
+entry-of-requires c κs = let inside = all-in (c .before .pre) in (omega arith, omega arith)
 
 returns : tie.Need-returns
 returns c = told-not-eligible (c .before .before .before .pre) (sym (c .before .entry-of .ensures) ∙ c .if1 .taken)
@@ -22,18 +22,23 @@ module _ (c : tie.Else1) where
   some e = c .if1 .left (c .before .entry-of .ensures ∙ e)
 
 cost-of-requires : tie.Need-cost-of-requires
-cost-of-requires c κs = let pre = start c .pre in record { tabled = tabled pre; lot-in = lots-in pre .0; call-in = calls-in pre .0 }
+cost-of-requires c κs =
+    let inside = all-in (start c .pre) in record { tabled = tabled (start c .pre); lot-in = omega arith; call-in = omega arith }
 
 cost-of-requires-2 : tie.Need-cost-of-requires-2
-cost-of-requires-2 c κs = let pre = start (c .before) .pre in record { tabled = tabled pre; lot-in = lots-in pre .1; call-in = calls-in pre .1 }
+cost-of-requires-2 c κs =
+    let pre = start (c .before) .pre in
+    let inside = all-in pre in record { tabled = tabled pre; lot-in = omega arith; call-in = omega arith }
 
 cost-of-requires-3 : tie.Need-cost-of-requires-3
 cost-of-requires-3 c κs =
-    let pre = start (c .before .before) .pre in record { tabled = tabled pre; lot-in = lots-in pre .0; call-in = calls-in pre .1 }
+    let pre = start (c .before .before) .pre in
+    let inside = all-in pre in record { tabled = tabled pre; lot-in = omega arith; call-in = omega arith }
 
 cost-of-requires-4 : tie.Need-cost-of-requires-4
 cost-of-requires-4 c κs =
-    let pre = start (c .before .before .before) .pre in record { tabled = tabled pre; lot-in = lots-in pre .1; call-in = calls-in pre .0 }
+    let pre = start (c .before .before .before) .pre in
+    let inside = all-in pre in record { tabled = tabled pre; lot-in = omega arith; call-in = omega arith }
 
 returns-2 : tie.Need-returns-2
 returns-2 c = let e = c .before .before .before .before .before in told-too-high (start e .pre) (some e) (omega arith)
