@@ -1,7 +1,7 @@
 //! Compares the C library with an independent reference, and tries demand 3, what the verdicts promise and request 2 by brute force. The
 //! seed is fixed, so every run is the same. Parts run at the same time in several threads, as the library allows. The last line is
 //! `tests: N cases, D differences`; the exit status is 0 only if D is 0, each number and each verdict came, and each wrong reference was
-//! noticed.
+//! noticed. The digest of replies and writes is another where a landing changes one of them.
 mod demand3;
 mod families;
 mod files;
@@ -19,6 +19,8 @@ mod sys;
 mod wrong;
 
 use library::{Comparison, Tallies, Tally, IDLE};
+use std::collections::hash_map::DefaultHasher;
+use std::hash::Hasher;
 use std::path::Path;
 use std::sync::atomic::{AtomicUsize, Ordering};
 use std::sync::Mutex;
@@ -30,13 +32,14 @@ type Work<'a> = Box<dyn Fn(&mut Comparison) + Sync + 'a>;
 /// What a part came to.
 struct Outcome {
     tallies: Tallies,
+    digest: u64,
     seconds: f64,
 }
 
 fn outcome(wrong: Wrong, work: &Work) -> Outcome {
     let (start, mut c) = (Instant::now(), Comparison::new(wrong));
     work(&mut c);
-    Outcome { tallies: c.tallies, seconds: start.elapsed().as_secs_f64() }
+    Outcome { digest: c.digest(), tallies: c.tallies, seconds: start.elapsed().as_secs_f64() }
 }
 
 fn sum<'a>(tallies: impl Iterator<Item = &'a Tally>) -> Tally {
@@ -70,6 +73,13 @@ fn run_all(parts: &[(Wrong, Work)]) -> Vec<Outcome> {
     let mut outcomes = outcomes.into_inner().unwrap();
     outcomes.sort_by_key(|&(k, _)| k);
     outcomes.into_iter().map(|(_, done)| done).collect()
+}
+
+/// One digest of what the library replied and wrote in all parts.
+fn digest(outcomes: &[Outcome]) -> u64 {
+    let mut all = DefaultHasher::new();
+    outcomes.iter().for_each(|done| all.write_u64(done.digest));
+    all.finish()
 }
 
 /// Whether a wrong reference was noticed: by each of these entry points, or by any where none is named.
@@ -147,6 +157,7 @@ fn main() {
         differences += tally.differences;
     }
     differences += unseen(&outcomes);
+    println!("replies and writes that were compared: {:016x}", digest(&outcomes));
 
     let parts: Vec<(Wrong, Work)> =
         WRONG.iter().map(|&(wrong, names)| (wrong, Box::new(move |c: &mut _| notice(c, names)) as Work)).collect();

@@ -7,8 +7,10 @@ use crate::sys::{
     placer_read_amounts, placer_read_book, placer_run_order, Reply,
 };
 use crate::wrong::Wrong;
+use std::collections::hash_map::DefaultHasher;
 use std::collections::BTreeMap;
 use std::ffi::c_void;
+use std::hash::{Hash, Hasher};
 
 extern "C" {
     fn mmap(at: *mut c_void, length: usize, protection: i32, flags: i32, file: i32, offset: i64) -> *mut u8;
@@ -48,12 +50,14 @@ impl Guarded {
         (start, items.len())
     }
 
+    fn items<T>(&self, (start, length): Part<T>) -> &[T] {
+        unsafe { std::slice::from_raw_parts(start, length) }
+    }
+
     fn holds<T: Copy + PartialEq>(&self, items: &[T]) -> bool {
         let start = self.start(items);
-        unsafe {
-            std::slice::from_raw_parts((start as *mut u8).sub(STRIP.len()), STRIP.len()) == STRIP
-                && std::slice::from_raw_parts(start, items.len()) == items
-        }
+        let before = unsafe { (start as *mut u8).sub(STRIP.len()) };
+        self.items((before, STRIP.len())) == STRIP && self.items((start, items.len())) == items
     }
 }
 
@@ -96,6 +100,8 @@ pub type Tallies = BTreeMap<&'static str, Tally>;
 pub struct Comparison {
     pub wrong: Wrong,
     pub tallies: Tallies,
+    /// Of every reply, and of the order buffer and the flow after it.
+    stream: DefaultHasher,
     book: Guarded,
     order: Guarded,
     amounts: Guarded,
@@ -124,7 +130,12 @@ impl Comparison {
     pub fn new(wrong: Wrong) -> Comparison {
         let room = |bytes| Guarded::new(bytes);
         let (book, order, amounts, flow) = (room(20_000), room(140_000), room(8_000), room(8_000));
-        Comparison { wrong, tallies: Tallies::new(), book, order, amounts, flow }
+        Comparison { wrong, tallies: Tallies::new(), stream: DefaultHasher::new(), book, order, amounts, flow }
+    }
+
+    /// A digest of what the library replied and wrote: two builds that reply and write alike have the same.
+    pub fn digest(&self) -> u64 {
+        self.stream.finish()
     }
 
     fn tally(&mut self, name: &'static str, same: bool, what: impl Fn() -> String) -> &mut Tally {
@@ -152,6 +163,7 @@ impl Comparison {
     ) {
         let parts = (self.book.put(lent.book), self.order.put(lent.order), self.amounts.put(lent.amounts), self.flow.put(lent.flow));
         let got = call(parts.0, parts.1, parts.2, parts.3);
+        (got.number, got.verdict, got.values, self.order.items(parts.1), self.flow.items(parts.3)).hash(&mut self.stream);
         let same = got == expected
             && self.book.holds(after.book)
             && self.order.holds(after.order)

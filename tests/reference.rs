@@ -156,13 +156,19 @@ impl Wrong {
     /// The check's condition for one quadruple: the refusal's number where it fails.
     pub fn crossing(self, book: &Book, (i, j): Pair, (k, l): Pair) -> Option<u32> {
         let cost = |i: usize, j: usize| book.costs[i][j].unwrap_or(0);
-        if book.costs[k][l].is_none() && self != Wrong::MissingPairCostsNothing {
-            return Some(11);
+        let (row, column) = if self == Wrong::CrossPairTurnedRound { (l, k) } else { (k, l) };
+        if book.costs.get(row).map_or(true, |costs| costs.get(column).map_or(true, Option::is_none)) {
+            match self {
+                Wrong::MissingPairCostsNothing => (),
+                Wrong::MissingPairPasses => return None,
+                _ => return Some(11),
+            }
         }
         if self == Wrong::OnlyLaterLotsAndCalls && (k < i || l < j) {
             return None;
         }
-        let (here, there) = (cost(i, j) + cost(k, l), cost(i, l) + cost(k, j));
+        let own = if self == Wrong::CostOfTheOtherLot { k } else { i };
+        let (here, there) = (cost(i, j) + cost(k, l), cost(own, l) + cost(k, j));
         let equal_fails = self == Wrong::StrictSum && k != i && l != j;
         (here > there || (here == there && equal_fails)).then_some(12)
     }

@@ -23,6 +23,11 @@ wrong! {
     PairTurnedRound
     NotEligibleCostsNothing;
 
+    &["check_order", "find_and_run", "find_and_run_idle"] =>
+    CrossPairTurnedRound
+    CostOfTheOtherLot
+    MissingPairPasses;
+
     &["find_and_run", "find_and_run_idle"] =>
     StrictSum
     OnlyLaterLotsAndCalls
