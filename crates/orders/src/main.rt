@@ -244,6 +244,22 @@ fn show_blocks() {
     );
 }
 
+// Rows - 7 - 9 and 1 2 - 3, - not eligible: a cost's position in its row is not its call. The three answers to a quadruple (request 3).
+fn show_gaps() {
+    let mut book = [0u8; 35];
+    open_book(&mut book, 2, 4);
+    book[7] = 10;
+    book[11] = 7;
+    book[15] = 9;
+    book[19] = 11;
+    book[23] = 1;
+    book[27] = 2;
+    book[31] = 3;
+    show_pairs(b"gaps, 7 + 3 and 9 + 2", &book, b"01 03 11 13 10");
+    show_pairs(b"gaps, 9 + 2 and 7 + 3", &book, b"03 01 11 13 10");
+    show_pairs(b"gaps, (0, 0) not eligible", &book, b"11 01 10 13 03");
+}
+
 // 22 lots and 7 calls, eligible (0, 0), (0, 3), (10, 0), (10, 3), (10, 6) and (21, 3): (10, 3) fails with (0, 6) and with (21, 0).
 fn show_far_failures() {
     let mut book = [0u8; 119];
@@ -267,5 +283,6 @@ fn main() {
     show_pairs_outside();
     show_pairs_met();
     show_blocks();
+    show_gaps();
     show_far_failures();
 }

@@ -1,8 +1,9 @@
 -- `order::quadruple::test_quadruple` meets its contract: each return is one answer of `checkQuadruple`.
 use mathlib.Core.Path.{_≡_, sym, _∙_}
+use Prim.Native.Nat.{ℕ, _<_}
 use native.Mathlib.Omega.{arith}
 use borrow.Author.Needs.{needs}
-use Rattle.book.specs.Table.{entry}
+use Rattle.book.specs.Table.{entry, CanRead}
 use Rattle.order.proofs.Testing.{all-in, tabled, told-not-eligible, told-too-high, told-holds}
 use Rattle.order.proofs.quadruple.test_quadruple.Statement.{statement}
 use Rattle.order.proofs.quadruple.test_quadruple.Tie as tie
@@ -21,24 +22,9 @@ module _ (c : tie.Else1) where
   some : entry (start .args .offsets .now) (start .args .k .0) (start .args .l .0) ≡ 0 → ⊥
   some e = c .if1 .left (c .before .entry-of .ensures ∙ e)
 
-cost-of-requires : tie.Need-cost-of-requires
-cost-of-requires c κs =
-    let inside = all-in (start c .pre) in record { tabled = tabled (start c .pre); lot-in = omega arith; call-in = omega arith }
-
-cost-of-requires-2 : tie.Need-cost-of-requires-2
-cost-of-requires-2 c κs =
-    let pre = start (c .before) .pre in
-    let inside = all-in pre in record { tabled = tabled pre; lot-in = omega arith; call-in = omega arith }
-
-cost-of-requires-3 : tie.Need-cost-of-requires-3
-cost-of-requires-3 c κs =
-    let pre = start (c .before .before) .pre in
-    let inside = all-in pre in record { tabled = tabled pre; lot-in = omega arith; call-in = omega arith }
-
-cost-of-requires-4 : tie.Need-cost-of-requires-4
-cost-of-requires-4 c κs =
-    let pre = start (c .before .before .before) .pre in
-    let inside = all-in pre in record { tabled = tabled pre; lot-in = omega arith; call-in = omega arith }
+  -- each of the four pairs can be looked up
+  look-up : {a b : ℕ} → a < 32 → b < 32 → CanRead (start .args .book .now) (start .args .offsets .now) a b
+  look-up lot call = record { tabled = tabled (start .pre); lot-in = lot; call-in = call }
 
 returns-2 : tie.Need-returns-2
 returns-2 c = let e = c .before .before .before .before .before in told-too-high (start e .pre) (some e) (omega arith)
@@ -52,13 +38,13 @@ test-quadruple-spec =
     (tie.spec
     entry-of-requires
     returns
-    cost-of-requires
+    (λ c κs. let inside = all-in (start c .pre) in look-up c (omega arith) (omega arith))
     (λ c. search needs)
-    cost-of-requires-2
+    (λ c κs. let inside = all-in (start (c .before) .pre) in look-up (c .before) (omega arith) (omega arith))
     (λ c. search needs)
-    cost-of-requires-3
+    (λ c κs. let inside = all-in (start (c .before .before) .pre) in look-up (c .before .before) (omega arith) (omega arith))
     (λ c. search needs)
-    cost-of-requires-4
+    (λ c κs. let inside = all-in (start (c .before .before .before) .pre) in look-up (c .before .before .before) (omega arith) (omega arith))
     (λ c. search needs)
     (λ c. search needs)
     (λ c. search needs)
