@@ -14,10 +14,10 @@ use Rattle.transport.specs.Problem.{sum}
 use Rattle.transport.specs.Finder.{size}
 use Rattle.transport.proofs.Laws.Sums.{sum-cong}
 use Rattle.specification.specs.Book.{bit, rowWord, bookLots, bookCalls, rowAt, rowStart, problemOf}
+use Rattle.specification.proofs.Starts.{row-is, start-next, row-inside}
 use Rattle.book.specs.Pairs.{onesBelow}
 use Rattle.book.proofs.Bits.{ones-below-none, ones-below-set, ones-below-unset}
 use Rattle.book.proofs.Readable.{Read}
-use Rattle.specification.proofs.Starts.{row-is, start-next, row-inside}
 
 -- the set bits below bit c, one by one
 bits-sum : (word c : ℕ) → sum c (λ j. cond (bit word j) 1 0) ≡ onesBelow word c

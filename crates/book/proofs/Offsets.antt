@@ -10,9 +10,9 @@ use lib.Dec.{ltb}
 use Rattle.specification.specs.Bytes.{u32At}
 use Rattle.specification.specs.Book.{costStart, problemOf}
 use Rattle.specification.proofs.Flows.{tabulate-at}
+use Rattle.specification.proofs.Starts.{cost-held}
 use Rattle.book.specs.Pairs.{readable, hasCost, costOffset, offsetTable}
 use Rattle.book.specs.Table.{entry}
-use Rattle.specification.proofs.Starts.{cost-held}
 
 module _ (book : List ℕ) (i j : ℕ) (hi : i < 32) (hj : j < 32) where
   pub entry-is : entry (offsetTable book) i j ≡ costOffset book i j

@@ -19,11 +19,11 @@ use Rattle.specification.specs.Book.{costLimit, bit, rowWord, bookLots, rowAt, 
 use Rattle.specification.proofs.Numbers.{u32-drop}
 use Rattle.specification.proofs.Flows.{tabulate-at}
 use Rattle.specification.proofs.Books.{admitted-inside, cost-within}
+use Rattle.specification.proofs.Starts.{row-is, row-inside, cost-inside}
 use Rattle.book.specs.Pairs.{hasCost, onesBelow, costOffset, offsetTable}
 use Rattle.book.specs.Table.{entry, admitsBy, problemBy, Tabled, Packed, Worded}
 use Rattle.book.proofs.Bits.{ones-below-none, ones-below-full, bit-of-full}
 use Rattle.book.proofs.Readable.{Read}
-use Rattle.specification.proofs.Starts.{row-is, row-inside, cost-inside}
 use Rattle.book.proofs.Offsets.{entry-is, entry-admits, entry-cost}
 use Rattle.book.proofs.Filled.{offset-row}
 

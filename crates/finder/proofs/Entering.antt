@@ -23,11 +23,11 @@ use Rattle.specification.specs.Book.{costLimit, bit, rowWord, rowSize, rowCost,
 use Rattle.specification.proofs.Numbers.{u32-drop}
 use Rattle.specification.proofs.Rows.{RowRead}
 use Rattle.specification.proofs.Books.{BookRead, book-length}
+use Rattle.specification.proofs.Starts.{row-is, row-inside, start-next}
 use Rattle.book.specs.Pairs.{onesBelow}
 use Rattle.book.specs.Table.{entry, SetFrom}
 use Rattle.book.proofs.Bits.{ones-below-none, ones-below-set, ones-below-clear, ones-below-all, bit-below, bit-past, bit-first, bit-after}
 use Rattle.book.proofs.Readable.{Read, readable-is}
-use Rattle.specification.proofs.Starts.{row-is, row-inside, start-next}
 use Rattle.slacks.specs.Slacks.{remains, bySlacks, Slacks}
 use Rattle.finder.specs.Filling.{slackIn, Entered, AtLot}
 use Rattle.slacks.proofs.BySlacks.{capped-zeros, capped-set}

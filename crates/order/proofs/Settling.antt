@@ -91,14 +91,9 @@ lowest-of-same {P} {Q} same order count r lists lowest = record {
               (rw (rest-more order count p h) (omega (arith, times-head (orderPair order p) (rest order count (p + 1))))),
         )
 
--- a book that was read
-module _ (book table starts : List ℕ) (n m : ℕ) (held : Held book table starts n m) where
-  pub read-held : Read book n m
-  read-held = counts-are book (sym (held .reads))
-
-  -- the table states the book's own problem
-  pub same-held : Same (problemBy book table n m) (problemOf book)
-  same-held = rw (held .offsets) (problem-same book read-held)
+-- the table of a book that was read states the book's own problem
+pub same-held : (book table starts : List ℕ) (n m : ℕ) → Held book table starts n m → Same (problemBy book table n m) (problemOf book)
+same-held book table starts n m held = rw (held .offsets) (problem-same book (counts-are book (sym (held .reads))))
 
 -- each pair of an order of its eligible pairs is eligible, so it can be walked and scanned
 module _ (book table starts places order : List ℕ) (count n m : ℕ) (s : CanSettle book table starts places order count n m) where
@@ -106,7 +101,7 @@ module _ (book table starts places order : List ℕ) (count n m : ℕ) (s : CanS
   P = problemOf book
 
   read : Read book n m
-  read = read-held book table starts n m (s .held)
+  read = counts-are book (sym (s .held .reads))
 
   same : Same (problemBy book table n m) P
   same = same-held book table starts n m (s .held)

@@ -1,5 +1,5 @@
--- The test of one quadruple by the table of offsets: where three of its pairs are eligible, what stands at the offsets are the book's own
--- costs, and an offset of 0 says that (k, l) is not eligible. So each answer is the specification's.
+-- The test of one quadruple by the table of offsets: where three of its pairs are eligible, the book's own costs stand at the offsets, and
+-- an offset of 0 says that (k, l) is not eligible. So each answer is the specification's.
 use mathlib.Core.Path.{_≡_, sym}
 use mathlib.Core.List.{List, [], _∷_}
 use Prim.Native.Nat.{ℕ, _+_, _≤_, _<_}
@@ -12,61 +12,59 @@ use Rattle.specification.specs.Bytes.{u32At}
 use Rattle.specification.specs.Book.{problemOf}
 use Rattle.specification.specs.Check.{checkQuadruple}
 use Rattle.specification.specs.Demands.{Readable}
+use Rattle.specification.specs.Requests.{ThreeEligible}
 use Rattle.specification.proofs.Quadruples.{quadruple-not-eligible, quadruple-too-high, quadruple-holds}
+use Rattle.book.specs.Pairs.{offsetTable}
 use Rattle.book.specs.Table.{entry, Tabled}
 use Rattle.book.proofs.Readable.{Read, counts-are}
 use Rattle.book.proofs.Tables.{lot-few, call-few, cost-at, eligible-at, not-eligible-at, offsets-tabled}
-use Rattle.order.specs.Asked.{CanTest}
 
--- the lots and calls of a readable book are those of the table
+-- the lots and calls of a readable book are of the table's
 module _ (book : List ℕ) (readable : Readable book) where
-  pub read-so : Read book (readable .0 .lots) (readable .0 .calls)
-  read-so = counts-are book (sym (readable .1))
-
   pub lot-in : (i : ℕ) → i < problemOf book .lots → i < 32
-  lot-in = lot-few book read-so
+  lot-in = lot-few book (counts-are book (sym (readable .1)))
 
   pub call-in : (j : ℕ) → j < problemOf book .calls → j < 32
-  call-in = call-few book read-so
+  call-in = call-few book (counts-are book (sym (readable .1)))
 
-module _ {book table : List ℕ} {i j k l : ℕ} (c : CanTest book table i j k l) where
+module _ {book table : List ℕ} {i j k l : ℕ} (three : ThreeEligible book i j k l) (offsets : table ≡ offsetTable book) where
   abbrev P : Problem
   P = problemOf book
 
-  abbrev read : Read book (c .readable .0 .lots) (c .readable .0 .calls)
-  read = read-so book (c .readable)
+  abbrev read : Read book (three .readable .0 .lots) (three .readable .0 .calls)
+  read = counts-are book (sym (three .readable .1))
 
   pub all-in : (i < 32) × (j < 32) × (k < 32) × (l < 32)
   all-in = (
-    lot-in book (c .readable) i (c .own .0),
-    call-in book (c .readable) j (c .own .1),
-    lot-in book (c .readable) k (c .by-call .0),
-    call-in book (c .readable) l (c .by-lot .1),
+    lot-in book (three .readable) i (three .own .0),
+    call-in book (three .readable) j (three .own .1),
+    lot-in book (three .readable) k (three .by-call .0),
+    call-in book (three .readable) l (three .by-lot .1),
   )
 
   pub tabled : Tabled book table
-  tabled = rw (c .offsets) (offsets-tabled book read)
+  tabled = rw offsets (offsets-tabled book read)
 
   -- an offset of 0
   pub told-not-eligible : entry table k l ≡ 0 → refuses 11 (i ∷ j ∷ k ∷ l ∷ []) ≡ checkQuadruple P (pair i j) k l
   told-not-eligible none = quadruple-not-eligible P (pair i j) k l
-      (not-eligible-at book read k l (all-in .2) (all-in .3) (rw (c .offsets) at none))
+      (not-eligible-at book read k l (all-in .2) (all-in .3) (rw offsets at none))
 
   -- and another: all four pairs are eligible
   module _ (some : entry table k l ≡ 0 → ⊥) where
     other : Eligible P k l
-    other = eligible-at book read k l (all-in .2) (all-in .3) (λ e. some (rw (c .offsets) e))
+    other = eligible-at book read k l (all-in .2) (all-in .3) (λ e. some (rw offsets e))
 
     abbrev cost : ℕ → ℕ → ℕ
     cost a b = u32At book (entry table a b)
 
     costs-are : (a b : ℕ) → Eligible P a b → cost a b ≡ P .cost a b
-    costs-are a b e = rw (c .offsets) (cost-at book read a b e)
+    costs-are a b e = rw offsets (cost-at book read a b e)
 
     pub told-too-high : cost i l + cost k j < cost i j + cost k l → refuses 12 (i ∷ j ∷ k ∷ l ∷ []) ≡ checkQuadruple P (pair i j) k l
     told-too-high high = quadruple-too-high P (pair i j) k l (T-true (P .admits k l) (other .2))
-        (omega (arith, costs-are i j (c .own), costs-are k l other, costs-are i l (c .by-lot), costs-are k j (c .by-call)))
+        (omega (arith, costs-are i j (three .own), costs-are k l other, costs-are i l (three .by-lot), costs-are k j (three .by-call)))
 
     pub told-holds : cost i j + cost k l ≤ cost i l + cost k j → gives tt ≡ checkQuadruple P (pair i j) k l
     told-holds low = quadruple-holds P (pair i j) k l (T-true (P .admits k l) (other .2))
-        (omega (arith, costs-are i j (c .own), costs-are k l other, costs-are i l (c .by-lot), costs-are k j (c .by-call)))
+        (omega (arith, costs-are i j (three .own), costs-are k l other, costs-are i l (three .by-lot), costs-are k j (three .by-call)))

@@ -20,14 +20,6 @@ pub record Held (book table starts : List ℕ) (n m : ℕ) : Type 0 where
   pub offsets : table ≡ offsetTable book
   pub rows : (i : ℕ) → i < n → getD starts i 0 ≡ rowStart book i
 
--- "any three eligible pairs (i, j), (i, l), (k, j) of a readable book" (document 02, request 3), and where it holds each pair's cost
-pub record CanTest (book table : List ℕ) (i j k l : ℕ) : Type 0 where
-  pub readable : Readable book
-  pub offsets : table ≡ offsetTable book
-  pub own : Eligible (problemOf book) i j
-  pub by-lot : Eligible (problemOf book) i l
-  pub by-call : Eligible (problemOf book) k j
-
 -- an order file with room for its count of pairs, and no more than 32 lots and calls
 pub record CanWalk (order : List ℕ) (count n m : ℕ) : Type 0 where
   pub order-long : 7 + 2 * count ≤ length order

@@ -1,6 +1,6 @@
 // Checking an order (document 01, "Checking an order"). The pairs are checked over the book's bytes and a table of where it holds each
-// pair's cost: no cost is copied into a table. A walk from the end of the order finds the lowest place at which it fails, and a scan of that
-// pair's quadruples names the first failure.
+// pair's cost. No cost is copied into a table: a walk from the end of the order, which keeps least differences of costs, finds the lowest
+// place at which it fails, and a scan of that pair's quadruples names the first failure.
 mod gaps;
 pub mod inner;
 mod places;

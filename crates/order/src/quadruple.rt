@@ -10,7 +10,8 @@ ghost use Rattle.transport.specs.Greedy.{pair};
 ghost use Rattle.specification.specs.Reply.{statedQuadruple};
 ghost use Rattle.specification.specs.Book.{problemOf};
 ghost use Rattle.specification.specs.Check.{checkQuadruple};
-ghost use Rattle.order.specs.Asked.{CanTest};
+ghost use Rattle.specification.specs.Requests.{ThreeEligible};
+ghost use Rattle.book.specs.Pairs.{offsetTable};
 
 // Of three eligible pairs (i, j), (i, l) and (k, j) of a readable book: whether (k, l) is eligible and the cost sums are as the check asks.
 pub fn test_quadruple(
@@ -21,7 +22,8 @@ pub fn test_quadruple(
     k: Lot,
     l: Call,
 ) -> Quadruple
-    requires { ⌜ CanTest (now book) (now offsets) (i .0) (j .0) (k .0) (l .0) ⌝ }
+    requires { ⌜ ThreeEligible (now book) (i .0) (j .0) (k .0) (l .0) ⌝ }
+    requires { ⌜ now offsets ≡ offsetTable (now book) ⌝ }
     ensures { λ r.
         ⌜ statedQuadruple (i .0) (j .0) (k .0) (l .0) r
         ≡ checkQuadruple (problemOf (now (book .entry))) (pair (i .0) (j .0)) (k .0) (l .0) ⌝ }

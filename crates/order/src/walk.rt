@@ -2,7 +2,7 @@
 // that it has later pairs with; and for each call j the word of the calls that all lots with a later pair at j are eligible for, with the
 // least gap of j over each of these calls at those lots. A pair (i, j) fails where lot i has a later pair with a call that is not in the word
 // of j, since then a pair (k, l) is not eligible, or with one over which its own gap is not the least. Costs are read where the book holds
-// them, and none is kept.
+// them; only the least gaps are kept.
 use super::gaps::GAP_TOP;
 use super::gaps::lower_row;
 use super::gaps::lower_set;

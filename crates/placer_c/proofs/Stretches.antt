@@ -12,9 +12,9 @@ use lib.ListN.{length, take, drop, length-take, length-drop}
 use lib.Seq.{drop-drop}
 use Rattle.specification.specs.Reply.{Reply, gives, refuses, Size}
 use Rattle.specification.specs.Book.{rowWord, rowSize, bookLots, readBook, rowAt, rowStart, lotCosts}
+use Rattle.specification.proofs.Starts.{row-is, row-inside}
 use Rattle.book.specs.Pairs.{readable}
 use Rattle.book.proofs.Readable.{counts-are}
-use Rattle.specification.proofs.Starts.{row-is, row-inside}
 
 pub nil-of-length : (l : List ℕ) → length l ≡ 0 → l ≡ []
 nil-of-length [] e = refl

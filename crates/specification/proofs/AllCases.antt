@@ -10,7 +10,8 @@ use Rattle.transport.specs.Problem.{sum}
 use Rattle.transport.specs.Greedy.{Pair, pair, giveAll}
 use Rattle.transport.specs.Order.{times}
 use Rattle.transport.specs.Finder.{every, first, takeFrom}
-use Rattle.specification.specs.Reply.{gives, refuses, full, covered, short}
+use Rattle.specification.specs.declared.Quadruple.the-variants.{Holds, NotEligible, TooHigh}
+use Rattle.specification.specs.Reply.{gives, refuses, full, covered, short, statedQuadruple}
 use Rattle.specification.specs.Bytes.{u16At, u32At, bookMark, amountsMark, readOpening}
 use Rattle.specification.specs.Book.{readCosts, readRow, readRows, readBook, rowAt, rowStart, costStart, problemOf, lotCosts}
 use Rattle.specification.specs.OrderFile.{pairs, pairBytes, orderFile}
@@ -282,9 +283,9 @@ bookSteps = book 2 4 (10 ∷ 7 ∷ 9 ∷ 11 ∷ 1 ∷ 2 ∷ 3 ∷ [])
 
 pub record QuadrupleCases : Type 0 where
   -- 7 + 3 ≤ 9 + 2, and not 9 + 2 ≤ 7 + 3; where (k, l) is not eligible, 11 (F6)
-  pub holds : checkQuadruple (problemOf bookSteps) (pair 0 1) 1 3 ≡ gives tt
-  pub too-high : checkQuadruple (problemOf bookSteps) (pair 0 3) 1 1 ≡ refuses 12 (0 ∷ 3 ∷ 1 ∷ 1 ∷ [])
-  pub not-eligible : checkQuadruple (problemOf bookGap) (pair 0 0) 1 1 ≡ refuses 11 (0 ∷ 0 ∷ 1 ∷ 1 ∷ [])
+  pub holds : statedQuadruple 0 1 1 3 Holds ≡ checkQuadruple (problemOf bookSteps) (pair 0 1) 1 3
+  pub too-high : statedQuadruple 0 3 1 1 TooHigh ≡ checkQuadruple (problemOf bookSteps) (pair 0 3) 1 1
+  pub not-eligible : statedQuadruple 0 0 1 1 NotEligible ≡ checkQuadruple (problemOf bookGap) (pair 0 0) 1 1
   -- the row of lot 1 starts at byte 19, and its cost for call 3 is the third
   pub row-starts : rowStart bookSteps 1 ≡ 19
   pub cost-starts : costStart bookSteps 1 3 ≡ 31

@@ -6,11 +6,12 @@ use mathlib.Core.List.{List, [], _∷_}
 use Prim.Native.Nat.{ℕ, _≤_}
 use native.Mathlib.Omega.{arith}
 use lib.Count.{ones, onesIn}
+use lib.Dec.{T}
 use lib.ListN.{length, replicate}
-use Rattle.transport.specs.Problem.{Eligible, sum, Meets, MeetsCalls}
+use Rattle.transport.specs.Problem.{sum, Meets, MeetsCalls}
 use Rattle.transport.specs.Greedy.{Pair}
 use Rattle.transport.specs.Finder.{every}
-use Rattle.specification.specs.Reply.{gives, full, covered, Outcome}
+use Rattle.specification.specs.Reply.{gives, full, covered, Size, Outcome}
 use Rattle.specification.specs.Bytes.{u16At, u32At, readOpening}
 use Rattle.specification.specs.Book.{readCosts, readRow, readRows, readBook, rowAt, problemOf}
 use Rattle.specification.specs.Amounts.{lotAmount, callAmount, readAmountsOf, readAmounts}
@@ -19,7 +20,7 @@ use Rattle.specification.specs.Run.{runOrder}
 use Rattle.specification.specs.Find.{orderLength, findOrder}
 use Rattle.specification.specs.Demands.{Readable, Passing, GoodOrder, returned}
 use Rattle.specification.specs.Idle.{enlarged}
-use Rattle.specification.specs.Requests.{SomeMeetsCalls, Allowed, IdleRun}
+use Rattle.specification.specs.Requests.{SomeMeetsCalls, Allowed, IdleRun, ThreeEligible}
 use Rattle.specification.specs.Examples.{amounts, book1235, amounts5436, bookGap, bookEmpty, bookDiagonal, known-examples}
 use Rattle.specification.proofs.AllCases.{bookCorners, bookSpare, amountsSpare, idle-cases, bookSteps}
 use Rattle.specification.proofs.Replies.{not-both}
@@ -49,11 +50,6 @@ amounts8 = amounts 2 2 (2 ∷ 0 ∷ 1 ∷ 0 ∷ [])
 abbrev amounts10 : List ℕ
 amounts10 = amounts 1 1 (1 ∷ 1 ∷ [])
 
--- three eligible pairs (i, j), (i, l), (k, j) of a readable book
-abbrev ThreeEligible : List ℕ → ℕ → ℕ → ℕ → ℕ → Type 0
-ThreeEligible book i j k l =
-    Readable book × Eligible (problemOf book) i j × Eligible (problemOf book) i l × Eligible (problemOf book) k j
-
 -- what demands 2 and 3 and requests 2 and 3 assume, each met
 pub record NotVacuous : Type 0 where
   -- a readable book, a buffer long enough, and an order returned
@@ -78,10 +74,11 @@ pub record NotVacuous : Type 0 where
   -- and a book with an order, whose enlarged book has none that is good, where no other refusal applies
   pub idle-none-good : Allowed bookCorners (amounts 3 2 (replicate 5 0)) (replicate 6 8)
       × ((S : List Pair) → GoodOrder (enlarged bookCorners) S → ⊥)
-  -- three eligible pairs of a readable book, for each answer of the test of a quadruple (`quadruple-cases`)
+  -- three eligible pairs of a readable book, for each answer of the test of a quadruple (`quadruple-cases`), and with k = i and l = j
   pub quadruple-holds : ThreeEligible bookSteps 0 1 1 3
   pub quadruple-too-high : ThreeEligible bookSteps 0 3 1 1
   pub quadruple-not-eligible : ThreeEligible bookGap 0 0 1 1
+  pub quadruple-own : ThreeEligible bookGap 0 1 0 1
 
 length-1235 : orderLength book1235 ≡ 15
 unfolding problemOf rowAt u16At u32At sum ones
@@ -99,17 +96,22 @@ reads-diagonal : readBook bookDiagonal ≡ gives (record { lots = 3; calls = 3 }
 unfolding u16At u32At readOpening readCosts readRow readRows readBook ones onesIn
 reads-diagonal = refl
 
-three-1-3 : ThreeEligible bookSteps 0 1 1 3
-unfolding u16At u32At readOpening readCosts readRow readRows readBook rowAt problemOf ones onesIn
-three-1-3 = ((_, refl), admitted-inside bookSteps 0 1 tt, admitted-inside bookSteps 0 3 tt, admitted-inside bookSteps 1 1 tt)
+reads-steps : readBook bookSteps ≡ gives (record { lots = 2; calls = 4 })
+unfolding u16At u32At readOpening readCosts readRow readRows readBook ones onesIn
+reads-steps = refl
 
-three-3-1 : ThreeEligible bookSteps 0 3 1 1
-unfolding problemOf rowAt u16At u32At ones
-three-3-1 = (three-1-3 .0, three-1-3 .2, three-1-3 .1, admitted-inside bookSteps 1 3 tt)
+reads-gap : readBook bookGap ≡ gives (record { lots = 2; calls = 2 })
+unfolding u16At u32At readOpening readCosts readRow readRows readBook ones onesIn
+reads-gap = refl
 
-three-gap : ThreeEligible bookGap 0 0 1 1
-unfolding u16At u32At readOpening readCosts readRow readRows readBook rowAt problemOf ones onesIn
-three-gap = ((_, refl), admitted-inside bookGap 0 0 tt, admitted-inside bookGap 0 1 tt, admitted-inside bookGap 1 0 tt)
+three-eligible : (book : List ℕ) {n : Size} → readBook book ≡ gives n → (i j k l : ℕ) → T (problemOf book .admits i j)
+    → T (problemOf book .admits i l) → T (problemOf book .admits k j) → ThreeEligible book i j k l
+three-eligible book {n} reads i j k l ij il kj = record {
+  readable = (n, reads);
+  own = admitted-inside book i j ij;
+  by-lot = admitted-inside book i l il;
+  by-call = admitted-inside book k j kj;
+}
 
 reads-amounts : readAmounts book1235 amounts5436 ≡ gives (record { lots = 2; calls = 2 })
 unfolding readAmounts readAmountsOf u16At u32At readOpening every
@@ -131,6 +133,7 @@ idle-allowed = record {
 }
 
 pub not-vacuous : NotVacuous
+unfolding problemOf rowAt u16At u32At ones
 not-vacuous =
     let found = known-examples .f1-found .0 in
     let long : orderLength bookDiagonal ≤ 19 = omega (arith, length-diagonal) in
@@ -159,7 +162,8 @@ not-vacuous =
         idle-allowed,
         λ S good. not-both (request2 .finds bookCorners _ _ idle-allowed S good .1) (idle-cases .no-order),
       );
-      quadruple-holds = three-1-3;
-      quadruple-too-high = three-3-1;
-      quadruple-not-eligible = three-gap;
+      quadruple-holds = three-eligible bookSteps reads-steps 0 1 1 3 tt tt tt;
+      quadruple-too-high = three-eligible bookSteps reads-steps 0 3 1 1 tt tt tt;
+      quadruple-not-eligible = three-eligible bookGap reads-gap 0 0 1 1 tt tt tt;
+      quadruple-own = three-eligible bookGap reads-gap 0 1 0 1 tt tt tt;
     }

@@ -1,22 +1,23 @@
 -- The test of one quadruple, (i, j) with lot k and call l: its three answers, in any problem, and what each of them says of the book's own
 -- bytes (document 02, request 3).
-use mathlib.Core.Path.{_≡_, refl, sym}
-use mathlib.Core.Logic.{_⊎_, _↔_, inl, inr, ⊎-elim, by-cases}
-use mathlib.Core.Bool.{true, false, not}
+use mathlib.Core.Path.{_≡_, sym}
+use mathlib.Core.Logic.{by-cases}
+use mathlib.Core.Bool.{true, false}
 use mathlib.Core.List.{List, [], _∷_}
 use Prim.Native.Nat.{ℕ, _+_, _≤_, _<_}
 use native.Mathlib.Decide.{decLt}
 use native.Mathlib.Omega.{arith}
 use borrow.Author.Tests.{lt-ltb, le-ltb}
-use lib.Dec.{ltb, ltb→lt, nltb→le, T-not}
 use Rattle.transport.specs.Problem.{Problem, Eligible}
 use Rattle.transport.specs.Greedy.{Pair, pair}
-use Rattle.transport.proofs.Laws.Tests.{T-true, T-false}
-use Rattle.specification.specs.Reply.{gives, refuses}
+use Rattle.transport.proofs.Laws.Tests.{T?, T-true, T-false}
+use Rattle.specification.specs.declared.Quadruple.{Quadruple}
+use Rattle.specification.specs.declared.Quadruple.the-variants.{Holds, NotEligible, TooHigh}
+use Rattle.specification.specs.Reply.{Reply, gives, refuses, statedQuadruple}
 use Rattle.specification.specs.Book.{problemOf}
 use Rattle.specification.specs.Check.{checkQuadruple}
-use Rattle.specification.specs.Requests.{SumsFit, Tested, Request3}
-use Rattle.specification.proofs.Replies.{Says, said-of-given, said-of-refused, says-unless, says-if, test-of-twice-not}
+use Rattle.specification.specs.Requests.{ThreeEligible, SumsFit, Told, Request3}
+use Rattle.specification.proofs.Replies.{not-both}
 use Rattle.specification.proofs.Books.{book-read}
 use Rattle.specification.proofs.Starts.{cost-held, cost-inside}
 
@@ -37,58 +38,44 @@ module _ (P : Problem) (p : Pair) (k l : ℕ) where
   unfolding checkQuadruple
   quadruple-holds e h = simp (e, le-ltb _ _ h)
 
--- a quadruple of a book's lots and calls
-module _ (book : List ℕ) (i j k l : ℕ) (lot-in : k < problemOf book .lots) (call-in : l < problemOf book .calls) where
+-- the answer at a quadruple of a book's lots and calls
+module _ (book : List ℕ) (i j k l : ℕ) (three : ThreeEligible book i j k l) where
   abbrev P : Problem
   P = problemOf book
 
-  abbrev Fits : Type 0
-  Fits = P .cost i j + P .cost k l ≤ P .cost i l + P .cost k j
+  abbrev answer : Reply (Unit {0})
+  answer = checkQuadruple P (pair i j) k l
 
-  -- the costs are as the book holds them
-  sums-fit : SumsFit book i j k l ↔ Fits
-  sums-fit = (
-    λ held. omega (arith, cost-held book i j, cost-held book k l, cost-held book i l, cost-held book k j),
-    λ fits. omega (arith, cost-held book i j, cost-held book k l, cost-held book i l, cost-held book k j),
-  )
+  -- it is one of three, by whether (k, l) is eligible and by the costs that the book holds
+  by-answer : {C : Type 0} → ((Eligible P k l → ⊥) → answer ≡ refuses 11 (i ∷ j ∷ k ∷ l ∷ []) → C)
+      → (Eligible P k l → (SumsFit book i j k l → ⊥) → answer ≡ refuses 12 (i ∷ j ∷ k ∷ l ∷ []) → C)
+      → (Eligible P k l → SumsFit book i j k l → answer ≡ gives tt → C) → C
+  by-answer none high low =
+      let ij = cost-held book i j in
+      let kl = cost-held book k l in
+      let il = cost-held book i l in
+      let kj = cost-held book k j in
+      by-cases (T? (P .admits k l))
+      (λ t. let e : Eligible P k l = (three .by-call .0, three .by-lot .1, t) in
+      let admitted = T-true (P .admits k l) t in
+      by-cases (decLt (P .cost i l + P .cost k j) (P .cost i j + P .cost k l))
+      (λ h. high e (λ fits. omega arith) (sym (quadruple-too-high P (pair i j) k l admitted h)))
+      (λ h. low e (omega arith) (sym (quadruple-holds P (pair i j) k l admitted (omega arith)))))
+      (λ t. none (λ e. t (e .2)) (sym (quadruple-not-eligible P (pair i j) k l (T-false (P .admits k l) t))))
 
-  -- the two numbers, and what each says
-  abbrev Refused : ℕ → List ℕ → Type 0
-  Refused n vs = ((n ≡ 11) × (Eligible P k l → ⊥)) ⊎ ((n ≡ 12) × Eligible P k l × (Fits → ⊥))
-
-  answer-says : Says (λ _. Eligible P k l × Fits) Refused (checkQuadruple P (pair i j) k l)
-  unfolding checkQuadruple
-  answer-says =
-      says-unless (not (P .admits k l)) 11 _ _ (λ t. inl (refl, λ e. T-not (P .admits k l) t (e .2))) (λ t.
-      let e : Eligible P k l = (lot-in, call-in, test-of-twice-not (P .admits k l) t) in
-      let (sum, own) : ℕ × ℕ = (P .cost i l + P .cost k j, P .cost i j + P .cost k l) in
-      says-if (ltb sum own) 12 _ (λ high. inr (refl, e, λ fits. omega (arith, ltb→lt sum own high))) (λ low. (e, nltb→le sum own low)))
-
-  told-too-high : Eligible P k l → (Fits → ⊥) → checkQuadruple P (pair i j) k l ≡ refuses 12 (i ∷ j ∷ k ∷ l ∷ [])
-  told-too-high e unfit = sym (quadruple-too-high P (pair i j) k l (T-true (P .admits k l) (e .2)) (by-cases
-      (decLt (P .cost i l + P .cost k j) (P .cost i j + P .cost k l)) (λ high. high) (λ low. absurd (unfit (omega arith)))))
-
-  tested : Tested book i j k l
-  tested = record {
-    holds = (
-      λ r. let said = said-of-given answer-says tt r in (said .0, sums-fit .1 (said .1)),
-      λ (e, fits). sym (quadruple-holds P (pair i j) k l (T-true (P .admits k l) (e .2)) (sums-fit .0 fits)),
-    );
-    not-eligible = (
-      λ r. ⊎-elim (λ (_, never). never) (λ (n, _, _). absurd (omega arith)) (said-of-refused answer-says 11 _ r),
-      λ never. sym (quadruple-not-eligible P (pair i j) k l (T-false (P .admits k l) (λ t. never (lot-in, call-in, t)))),
-    );
-    too-high = (
-      λ r. ⊎-elim (λ (n, _). absurd (omega arith)) (λ (_, e, unfit). (e, λ fits. unfit (sums-fit .0 fits)))
-          (said-of-refused answer-says 12 _ r),
-      λ (e, unfit). told-too-high e (λ fits. unfit (sums-fit .1 fits)),
-    );
-  }
+  told : (r : Quadruple) → statedQuadruple i j k l r ≡ answer → Told book i j k l r
+  told Holds says = by-answer (λ _ e. absurd (not-both (sym says) e)) (λ _ _ e. absurd (not-both (sym says) e)) (λ kl fits _. (kl, fits))
+  told NotEligible says = by-answer (λ never _. never)
+      (λ _ _ e. let z : _≡_ {A = ℕ} 11 12 = cc in absurd (omega arith)) (λ _ _ e. absurd (not-both e (sym says)))
+  told TooHigh says = by-answer (λ _ e. let z : _≡_ {A = ℕ} 11 12 = cc in absurd (omega arith)) (λ kl unfit _. (kl, unfit))
+      (λ _ _ e. absurd (not-both e (sym says)))
 
 pub request3 : Request3
 request3 = record {
-  tested = λ book readable i j k l ij il kj. tested book i j k l (kj .0) (il .1);
-  own-lot = λ book i j l il. sym (quadruple-holds (problemOf book) (pair i j) i l (T-true (problemOf book .admits i l) (il .2)) (omega arith));
-  own-call = λ book i j k kj. sym (quadruple-holds (problemOf book) (pair i j) k j (T-true (problemOf book .admits k j) (kj .2)) (omega arith));
+  told = told;
+  own-lot = λ book i j l three.
+      quadruple-holds (problemOf book) (pair i j) i l (T-true (problemOf book .admits i l) (three .by-lot .2)) (omega arith);
+  own-call = λ book i j k three.
+      quadruple-holds (problemOf book) (pair i j) k j (T-true (problemOf book .admits k j) (three .by-call .2)) (omega arith);
   in-book = λ book (n, reads) i j e. (cost-inside (book-read book n reads) i j e, cost-held book i j);
 }

@@ -29,9 +29,13 @@ rowWord row = u32At row 0
 abbrev pub rowSize : List ℕ → ℕ
 rowSize row = 4 + 4 * ones (rowWord row)
 
--- the cost of call j: before it stand as many costs of the row as bits are set below bit j
+-- the byte of the row at which the cost of call j starts: before it stand the word and as many costs as bits are set below bit j
+abbrev pub costInRow : List ℕ → ℕ → ℕ
+costInRow row j = 4 + 4 * ones (rowWord row % 2 ^ j)
+
+-- that cost
 abbrev pub rowCost : List ℕ → ℕ → ℕ
-rowCost row j = u32At row (4 + 4 * ones (rowWord row % 2 ^ j))
+rowCost row j = u32At row (costInRow row j)
 
 -- 7 for each cost, lowest bit first: calls j to j + left - 1
 unfoldable pub readCosts : List ℕ → ℕ → ℕ → ℕ → Reply (Unit {0})
@@ -85,9 +89,9 @@ unfoldable pub rowStart : List ℕ → ℕ → ℕ
 rowStart book zero = 7
 rowStart book (suc i) = rowStart book i + rowSize (rowAt book i)
 
--- the byte at which the cost of (i, j) starts, behind the row's word and the costs of its lower set bits
+-- and the byte of the book at which the cost of (i, j) starts
 abbrev pub costStart : List ℕ → ℕ → ℕ → ℕ
-costStart book i j = rowStart book i + (4 + 4 * ones (rowWord (rowAt book i) % 2 ^ j))
+costStart book i j = rowStart book i + costInRow (rowAt book i) j
 
 -- the book's transportation problem: n lots, m calls, (i, j) eligible where both are in the book and lot i's word has bit j, its cost;
 -- of a pair that is not eligible the cost means nothing

@@ -1,13 +1,15 @@
--- What the change requests (document 02) promise of their own, as types. Above each part stands the sentence it is. A request
+-- What the change requests (document 02) promise beside the demands, as types. Above each part stands the sentence it is. A request
 -- that changes what document 01 has is in the definitions and the demands themselves: request 1 in `Ran` and `Verdicts`.
 use mathlib.Core.Path.{_≡_}
 use mathlib.Core.Logic.{_↔_}
-use mathlib.Core.List.{List, [], _∷_}
+use mathlib.Core.List.{List, []}
 use Prim.Native.Nat.{ℕ, _+_, _*_, _≤_, _<_}
 use lib.ListN.{length}
 use Rattle.transport.specs.Problem.{Eligible, units, totalCost, Allocation, MeetsCalls}
 use Rattle.transport.specs.Greedy.{Pair, pair}
-use Rattle.specification.specs.Reply.{gives, refuses, Size, Outcome, full, covered}
+use Rattle.specification.specs.declared.Quadruple.{Quadruple}
+use Rattle.specification.specs.declared.Quadruple.the-variants as quadruple
+use Rattle.specification.specs.Reply.{gives, refuses, Size, Outcome, full, covered, statedQuadruple}
 use Rattle.specification.specs.Bytes.{u32At}
 use Rattle.specification.specs.Book.{costStart, problemOf}
 use Rattle.specification.specs.Amounts.{readAmounts, lotAmount, callAmount}
@@ -69,7 +71,15 @@ pub record Request2 : Type 0 where
   pub or-13 : (book amounts flow : List ℕ) → Allowed book amounts flow → ((S : List Pair) → GoodOrder (enlarged book) S → ⊥)
       → findAndRunIdle book amounts flow ≡ refuses 13 []
 
--- Request 3, the test of one quadruple: the pair (i, j) with lot k and call l. A cost "where the book holds [it]": the number in four bytes
+-- Request 3: the test of one quadruple, the pair (i, j) with lot k and call l. "any three eligible pairs (i, j), (i, l), (k, j) of a readable
+-- book": k may be i, and l may be j
+pub record ThreeEligible (book : List ℕ) (i j k l : ℕ) : Type 0 where
+  pub readable : Readable book
+  pub own : Eligible (problemOf book) i j
+  pub by-lot : Eligible (problemOf book) i l
+  pub by-call : Eligible (problemOf book) k j
+
+-- a cost "where the book holds" it: the number in four of its bytes
 abbrev pub heldCost : List ℕ → ℕ → ℕ → ℕ
 heldCost book i j = u32At book (costStart book i j)
 
@@ -77,23 +87,21 @@ heldCost book i j = u32At book (costStart book i j)
 abbrev pub SumsFit : List ℕ → ℕ → ℕ → ℕ → ℕ → Type 0
 SumsFit book i j k l = heldCost book i j + heldCost book k l ≤ heldCost book i l + heldCost book k j
 
--- its answer "stated over the book's own bytes"
-pub record Tested (book : List ℕ) (i j k l : ℕ) : Type 0 where
-  -- it passes where "(k, l) is eligible and the cost sums are as the check asks"
-  pub holds : (checkQuadruple (problemOf book) (pair i j) k l ≡ gives tt) ↔ (Eligible (problemOf book) k l × SumsFit book i j k l)
-  -- it is 11 where (k, l) is not eligible
-  pub not-eligible : (checkQuadruple (problemOf book) (pair i j) k l ≡ refuses 11 (i ∷ j ∷ k ∷ l ∷ [])) ↔ (Eligible (problemOf book) k l → ⊥)
-  -- and 12 where it is, and the sum is too high
-  pub too-high : (checkQuadruple (problemOf book) (pair i j) k l ≡ refuses 12 (i ∷ j ∷ k ∷ l ∷ []))
-      ↔ (Eligible (problemOf book) k l × (SumsFit book i j k l → ⊥))
+-- "Its answer .. says .. whether (k, l) is eligible and the cost sums are as the check asks": each of the three, which exclude each other
+abbrev pub Told : List ℕ → ℕ → ℕ → ℕ → ℕ → Quadruple → Type 0
+Told book i j k l quadruple.Holds = Eligible (problemOf book) k l × SumsFit book i j k l
+Told book i j k l quadruple.NotEligible = Eligible (problemOf book) k l → ⊥
+Told book i j k l quadruple.TooHigh = Eligible (problemOf book) k l × (SumsFit book i j k l → ⊥)
 
 pub record Request3 : Type 0 where
-  -- "for any three eligible pairs (i, j), (i, l), (k, j) of a readable book": k may be i, and l may be j
-  pub tested : (book : List ℕ) → Readable book → (i j k l : ℕ) → Eligible (problemOf book) i j → Eligible (problemOf book) i l
-      → Eligible (problemOf book) k j → Tested book i j k l
-  -- then it passes
-  pub own-lot : (book : List ℕ) (i j l : ℕ) → Eligible (problemOf book) i l → checkQuadruple (problemOf book) (pair i j) i l ≡ gives tt
-  pub own-call : (book : List ℕ) (i j k : ℕ) → Eligible (problemOf book) k j → checkQuadruple (problemOf book) (pair i j) k j ≡ gives tt
+  -- the answer r that states what the check asks at this quadruple (so the contract of `test_quadruple`)
+  pub told : (book : List ℕ) (i j k l : ℕ) → ThreeEligible book i j k l
+      → (r : Quadruple) → statedQuadruple i j k l r ≡ checkQuadruple (problemOf book) (pair i j) k l → Told book i j k l r
+  -- where k is i, or l is j, it holds
+  pub own-lot : (book : List ℕ) (i j l : ℕ) → ThreeEligible book i j i l
+      → statedQuadruple i j i l quadruple.Holds ≡ checkQuadruple (problemOf book) (pair i j) i l
+  pub own-call : (book : List ℕ) (i j k : ℕ) → ThreeEligible book i j k j
+      → statedQuadruple i j k j quadruple.Holds ≡ checkQuadruple (problemOf book) (pair i j) k j
   -- the four bytes of an eligible pair's cost stand in the book, and hold the cost of its problem
   pub in-book : (book : List ℕ) → Readable book → (i j : ℕ) → Eligible (problemOf book) i j
       → (costStart book i j + 4 ≤ length book) × (heldCost book i j ≡ problemOf book .cost i j)

@@ -10,8 +10,8 @@ use lib.ListN.{length, take, drop}
 use lib.Seq.{drop-drop}
 use Rattle.specification.specs.Reply.{gives, statedCounts}
 use Rattle.specification.specs.Book.{rowWord, rowSize, bookLots, readBook, rowAt, rowStart, lotCosts}
-use Rattle.book.proofs.Readable.{Read, counts-are}
 use Rattle.specification.proofs.Starts.{row-is, row-inside}
+use Rattle.book.proofs.Readable.{Read, counts-are}
 use Rattle.book.proofs.Rows.{part-is-row}
 use Rattle.book.proofs.lot_costs.Statement.{statement}
 use Rattle.book.proofs.lot_costs.Tie as tie

@@ -9,8 +9,8 @@ use native.Mathlib.Omega.{arith}
 use lib.ListN.{length}
 use Rattle.specification.specs.Reply.{gives, statedCounts}
 use Rattle.specification.specs.Book.{bookLots, readBook, problemOf}
-use Rattle.book.proofs.Readable.{Read, counts-are}
 use Rattle.specification.proofs.Starts.{row-inside}
+use Rattle.book.proofs.Readable.{Read, counts-are}
 use Rattle.book.proofs.Rows.{part-is-row}
 use Rattle.book.proofs.pair_cost.Statement.{statement}
 use Rattle.book.proofs.pair_cost.Tie as tie

@@ -7,9 +7,9 @@ use native.Mathlib.Omega.{arith}
 use lib.ListN.{length}
 use Rattle.specification.specs.Book.{largestBook, rowSize, bookLots, rowAt, rowStart}
 use Rattle.specification.proofs.Books.{BookRead, book-length}
+use Rattle.specification.proofs.Starts.{start-next, row-inside}
 use Rattle.book.proofs.Filled.{Filled, filled-none, filled-next, filled-all}
 use Rattle.book.proofs.Readable.{readable-is}
-use Rattle.specification.proofs.Starts.{start-next, row-inside}
 use Rattle.book.proofs.Rows.{part-is-row}
 use Rattle.book.proofs.inner.offsets.Statement.{statement}
 use Rattle.book.proofs.inner.offsets.Tie as tie

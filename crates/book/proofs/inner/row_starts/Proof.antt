@@ -8,8 +8,8 @@ use native.Mathlib.Omega.{arith}
 use lib.ListN.{length, getD, length-set}
 use lib.Seq.{getD-set-same, getD-set-other}
 use Rattle.specification.specs.Book.{rowSize, rowAt, rowStart}
-use Rattle.book.proofs.Readable.{readable-is}
 use Rattle.specification.proofs.Starts.{start-next, row-inside}
+use Rattle.book.proofs.Readable.{readable-is}
 use Rattle.book.proofs.Rows.{part-is-row}
 use Rattle.book.proofs.inner.row_starts.Statement.{statement}
 use Rattle.book.proofs.inner.row_starts.Tie as tie

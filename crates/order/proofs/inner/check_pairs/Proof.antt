@@ -15,12 +15,13 @@ use Rattle.specification.specs.Check.{checkPairs}
 use Rattle.files.specs.declared.Step.the-variants.{Passes}
 use Rattle.files.specs.Files.{statedStep}
 use Rattle.specification.proofs.Books.{admitted-inside}
+use Rattle.book.proofs.Readable.{counts-are}
 use Rattle.book.proofs.Counted.{book-counted}
 use Rattle.order.specs.Places.{rest}
 use Rattle.order.specs.Answers.{checkedPairs}
 use Rattle.order.proofs.Arrays.{shows-all}
 use Rattle.order.proofs.Agreeing.{pairs-by-table}
-use Rattle.order.proofs.Settling.{rest-whole, rest-length, some-missing, none-missing, order-of-pairs, read-held, same-held}
+use Rattle.order.proofs.Settling.{rest-whole, rest-length, some-missing, none-missing, order-of-pairs, same-held}
 use Rattle.order.proofs.Settling.{answer-refused, answer-missing, answer-settled}
 use Rattle.order.proofs.inner.check_pairs.Statement.{statement}
 use Rattle.order.proofs.inner.check_pairs.Tie as tie
@@ -53,7 +54,7 @@ module _ (c : tie.After-fill-places) where
 
   -- the book's length counts the eligible pairs
   counted : length book ≡ 7 + 4 * start .args .n + 4 * size P
-  counted = let a = start .args in book-counted book (read-held book (a .offsets .now) (a .starts .now) (a .n) (a .m) (start .pre .0))
+  counted = book-counted book (counts-are book (sym (start .pre .0 .reads)))
 
   whole-is : checkedPairs P S (start .args .count)
       ≡ checkedPairs P (pairs (start .args .count) (drop 7 (start .args .order .now))) (start .args .count)

@@ -28,14 +28,15 @@ returns c =
 test-quadruple-requires : tie.Need-test-quadruple-requires
 test-quadruple-requires c κs =
     let start = c .before .before .before in
-    let scan = start .pre .0 in
-    record {
-      readable = scan .readable;
-      offsets = scan .offsets;
-      own = scan .own;
-      by-lot = scan .placed _ _ (inside start .0) (inside start .1) (omega arith);
-      by-call = start .pre .1;
-    }
+    let scan = start .pre .0 in (
+      record {
+        readable = scan .readable;
+        own = scan .own;
+        by-lot = scan .placed _ _ (inside start .0) (inside start .1) (omega arith);
+        by-call = start .pre .1;
+      },
+      scan .offsets,
+    )
 
 returns-2 : tie.Need-returns-2
 returns-2 c =
