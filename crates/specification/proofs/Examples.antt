@@ -6,12 +6,11 @@ use mathlib.Core.List.{List, [], _∷_}
 use Prim.Native.Nat.{ℕ, _≤_}
 use native.Mathlib.Omega.{arith}
 use lib.Count.{ones, onesIn}
-use lib.Dec.{T}
 use lib.ListN.{length, replicate}
 use Rattle.transport.specs.Problem.{sum, Meets, MeetsCalls}
 use Rattle.transport.specs.Greedy.{Pair}
 use Rattle.transport.specs.Finder.{every}
-use Rattle.specification.specs.Reply.{gives, full, covered, Size, Outcome}
+use Rattle.specification.specs.Reply.{gives, full, covered, Outcome}
 use Rattle.specification.specs.Bytes.{u16At, u32At, readOpening}
 use Rattle.specification.specs.Book.{readCosts, readRow, readRows, readBook, rowAt, problemOf}
 use Rattle.specification.specs.Amounts.{lotAmount, callAmount, readAmountsOf, readAmounts}
@@ -78,7 +77,7 @@ pub record NotVacuous : Type 0 where
   pub quadruple-holds : ThreeEligible bookSteps 0 1 1 3
   pub quadruple-too-high : ThreeEligible bookSteps 0 3 1 1
   pub quadruple-not-eligible : ThreeEligible bookGap 0 0 1 1
-  pub quadruple-own : ThreeEligible bookGap 0 1 0 1
+  pub quadruple-own : ThreeEligible bookGap 0 0 0 0
 
 length-1235 : orderLength book1235 ≡ 15
 unfolding problemOf rowAt u16At u32At sum ones
@@ -104,13 +103,32 @@ reads-gap : readBook bookGap ≡ gives (record { lots = 2; calls = 2 })
 unfolding u16At u32At readOpening readCosts readRow readRows readBook ones onesIn
 reads-gap = refl
 
-three-eligible : (book : List ℕ) {n : Size} → readBook book ≡ gives n → (i j k l : ℕ) → T (problemOf book .admits i j)
-    → T (problemOf book .admits i l) → T (problemOf book .admits k j) → ThreeEligible book i j k l
-three-eligible book {n} reads i j k l ij il kj = record {
-  readable = (n, reads);
-  own = admitted-inside book i j ij;
-  by-lot = admitted-inside book i l il;
-  by-call = admitted-inside book k j kj;
+-- pairs of these books are eligible where a word has their bit
+three-1-3 : ThreeEligible bookSteps 0 1 1 3
+unfolding problemOf rowAt u16At u32At ones
+three-1-3 = record {
+  readable = (_, reads-steps);
+  own = admitted-inside bookSteps _ _ tt;
+  by-lot = admitted-inside bookSteps _ _ tt;
+  by-call = admitted-inside bookSteps _ _ tt;
+}
+
+three-3-1 : ThreeEligible bookSteps 0 3 1 1
+unfolding problemOf rowAt u16At u32At ones
+three-3-1 = record {
+  readable = three-1-3 .readable;
+  own = three-1-3 .by-lot;
+  by-lot = three-1-3 .own;
+  by-call = admitted-inside bookSteps _ _ tt;
+}
+
+three-gap : ThreeEligible bookGap 0 0 1 1
+unfolding problemOf rowAt u16At u32At ones
+three-gap = record {
+  readable = (_, reads-gap);
+  own = admitted-inside bookGap _ _ tt;
+  by-lot = admitted-inside bookGap _ _ tt;
+  by-call = admitted-inside bookGap _ _ tt;
 }
 
 reads-amounts : readAmounts book1235 amounts5436 ≡ gives (record { lots = 2; calls = 2 })
@@ -133,7 +151,6 @@ idle-allowed = record {
 }
 
 pub not-vacuous : NotVacuous
-unfolding problemOf rowAt u16At u32At ones
 not-vacuous =
     let found = known-examples .f1-found .0 in
     let long : orderLength bookDiagonal ≤ 19 = omega (arith, length-diagonal) in
@@ -162,8 +179,8 @@ not-vacuous =
         idle-allowed,
         λ S good. not-both (request2 .finds bookCorners _ _ idle-allowed S good .1) (idle-cases .no-order),
       );
-      quadruple-holds = three-eligible bookSteps reads-steps 0 1 1 3 tt tt tt;
-      quadruple-too-high = three-eligible bookSteps reads-steps 0 3 1 1 tt tt tt;
-      quadruple-not-eligible = three-eligible bookGap reads-gap 0 0 1 1 tt tt tt;
-      quadruple-own = three-eligible bookGap reads-gap 0 1 0 1 tt tt tt;
+      quadruple-holds = three-1-3;
+      quadruple-too-high = three-3-1;
+      quadruple-not-eligible = three-gap;
+      quadruple-own = let own = three-gap .own in record { readable = three-gap .readable; own = own; by-lot = own; by-call = own };
     }
