@@ -94,7 +94,7 @@ Told book i j k l quadruple.NotEligible = Eligible (problemOf book) k l → ⊥
 Told book i j k l quadruple.TooHigh = Eligible (problemOf book) k l × (SumsFit book i j k l → ⊥)
 
 pub record Request3 : Type 0 where
-  -- the answer r that states what the check asks at this quadruple (so the contract of `test_quadruple`)
+  -- an answer r that states what the check says of the quadruple, as that of `test_quadruple` does
   pub told : (book : List ℕ) (i j k l : ℕ) → ThreeEligible book i j k l
       → (r : Quadruple) → statedQuadruple i j k l r ≡ checkQuadruple (problemOf book) (pair i j) k l → Told book i j k l r
   -- where k is i, or l is j, it holds
