@@ -27,7 +27,7 @@ pub fn read_of(lots: usize, calls: usize, amounts: &[u8]) -> Counts
     requires { ⌜ (lots ≤ 32) × (calls ≤ 32) ⌝ }
     ensures { λ r. ⌜ statedCounts r ≡ readAmountsOf (record { lots = lots; calls = calls }) (now (amounts .entry)) ⌝ }
 {
-    let opening = files::read_opening(amounts, &files::AMOUNTS_MARK);
+    let opening = files::read_opening(amounts, &files::AMOUNTS_MARK, 1);
     if let Step::Refused(r) = opening {
         return Counts::Refused(r);
     }
@@ -44,7 +44,7 @@ pub fn read_of(lots: usize, calls: usize, amounts: &[u8]) -> Counts
     if size < amounts.len() {
         return Counts::Refused(Refusal::BytesAfter);
     }
-    if book::inner::all_within(amounts, 7, lots + calls, AMOUNT_LIMIT) {
+    if book::inner::all_within(amounts, 7, lots + calls, 0, AMOUNT_LIMIT) {
         return Counts::Are(lots, calls);
     }
     Counts::Refused(Refusal::AmountTooHigh)

@@ -1,5 +1,6 @@
 // Where a book that was read holds its costs: the byte at which each row starts, and a table of offsets by lot and call, made in one pass
 // over the rows; and what the table says of a pair.
+use specification::COST_LIMIT;
 use specification::Call;
 use specification::Lot;
 ghost use mathlib.Core.Path.{_≡_};
@@ -10,9 +11,10 @@ ghost use lib.Dec.{leb};
 ghost use lib.ListN.{length, drop, getD};
 ghost use Rattle.transport.specs.Finder.{every, size};
 ghost use Rattle.specification.specs.Bytes.{u32At};
-ghost use Rattle.specification.specs.Book.{rowCost, bookLots, rowStart, problemOf};
+ghost use Rattle.specification.specs.Costs.{liftedCost};
+ghost use Rattle.specification.specs.Book.{rowCost, bookVersion, bookLots, rowStart, problemOf};
 ghost use Rattle.book.specs.Pairs.{readable, offsetTable};
-ghost use Rattle.book.specs.Table.{entry, admitsBy, CanRead, WithRow, SetFrom};
+ghost use Rattle.book.specs.Table.{entry, raisedAt, admitsBy, CanRead, WithRow, SetFrom};
 
 // The byte at which each of the first `lots` rows starts in a readable book.
 pub fn row_starts(book: &[u8], lots: usize) -> [usize; 32]
@@ -46,12 +48,12 @@ pub fn pair_count(book: &[u8], lots: usize) -> usize
     (book.len() - 7) / 4 - lots
 }
 
-// The cost of a call in the row that starts at a byte of the book.
-pub fn cost_from(book: &[u8], start: usize, call: Call) -> u32
+// The cost of a call, with a base added, in the row that starts at a byte of the book.
+pub fn cost_from(book: &[u8], start: usize, call: Call, base: u32) -> u32
     requires { ⌜ start ≤ length (now book) ⌝ }
-    ensures { λ r. ⌜ r ≡ rowCost (drop start (now (book .entry))) (call .0) ⌝ }
+    ensures { λ r. ⌜ r ≡ liftedCost base (rowCost (drop start (now (book .entry))) (call .0)) ⌝ }
 {
-    super::row::cost_in(&book[start..], call)
+    super::signed::lifted(super::row::cost_in(&book[start..], call), base)
 }
 
 // The lowest set bit of a word from bit j on, or 32.
@@ -151,27 +153,34 @@ pub fn cost_at(book: &[u8], at: usize) -> u32
     files::u32_in(book, at)
 }
 
-// Whether none of the `count` 32-bit numbers from byte `start` on is above the limit. It does not stop at the first that is: the pass is
-// straight code.
-pub fn all_within(s: &[u8], start: usize, count: usize, limit: u32) -> bool
+// The version of a book.
+pub fn version_of(book: &[u8]) -> u16
+    ensures { λ r. ⌜ r ≡ bookVersion (now (book .entry)) ⌝ }
+{
+    files::u16_at(book, 3)
+}
+
+// Whether none of the `count` 32-bit numbers from byte `start` on, with the base added, is above the limit. It does not stop at the first
+// that is: the pass is straight code.
+pub fn all_within(s: &[u8], start: usize, count: usize, base: u32, limit: u32) -> bool
     requires { ⌜ start + 4 * count ≤ length (now s) ⌝ }
-    ensures { λ r. ⌜ r ≡ every count (λ k. leb (u32At (now (s .entry)) (start + 4 * k)) limit) ⌝ }
+    ensures { λ r. ⌜ r ≡ every count (λ k. leb (liftedCost base (u32At (now (s .entry)) (start + 4 * k))) limit) ⌝ }
 {
     let mut within = true;
     for k in 0..count {
-        if limit < cost_at(s, start + 4 * k) {
+        if limit < super::signed::lifted(cost_at(s, start + 4 * k), base) {
             within = false;
         }
     }
     within
 }
 
-// The cost of a pair; of one that is not eligible, the number that opens the book.
+// The cost of a pair with the limit added, in either version; of a pair that is not eligible it means nothing.
 pub fn cost_of(book: &[u8], table: &[u16; 1024], lot: Lot, call: Call) -> u32
     requires { ⌜ CanRead (now book) (now table) (lot .0) (call .0) ⌝ }
-    ensures { λ r. ⌜ r ≡ u32At (now (book .entry)) (entry (now (table .entry)) (lot .0) (call .0)) ⌝ }
+    ensures { λ r. ⌜ r ≡ raisedAt (now (book .entry)) (entry (now (table .entry)) (lot .0) (call .0)) ⌝ }
 {
-    cost_at(book, entry_of(table, lot, call))
+    super::signed::lifted(cost_at(book, entry_of(table, lot, call)), COST_LIMIT)
 }
 
 // Whether a pair is of the n lots and m calls and eligible.

@@ -1,6 +1,7 @@
 // The book file: reading it, the costs of one lot, and the cost of a pair.
 pub mod inner;
 mod row;
+pub mod signed;
 mod word;
 
 use files::Step;
@@ -16,20 +17,20 @@ ghost use Rattle.book.specs.Pairs.{statedCost};
 
 // What a book says of a lot and a call: the pair's cost, that the pair is not eligible, or that the lot or the call is not in the book.
 pub enum Cost {
-    Of(u32),
+    Of(i64),
     NotEligible,
     Outside,
     Refused(Refusal),
 }
 
 // The rows of lots 0 to `lots` - 1, in the part of the book that starts at the first one's word; no byte may follow them.
-fn read_rows(rows: &[u8], lots: usize, calls: usize) -> Step
-    ensures { λ r. ⌜ statedStep r ≡ readRows (now (rows .entry)) 0 lots calls ⌝ }
+fn read_rows(rows: &[u8], version: u16, lots: usize, calls: usize) -> Step
+    ensures { λ r. ⌜ statedStep r ≡ readRows version (now (rows .entry)) 0 lots calls ⌝ }
 {
     let mut at = 0;
     for lot in 0..lots {
         let row = &rows[at..];
-        let step = row::read_row(row, Lot(lot), calls);
+        let step = row::read_row(row, version, Lot(lot), calls);
         if let Step::Refused(r) = step {
             return Step::Refused(r);
         }
@@ -52,7 +53,7 @@ fn is_outside(count: usize) -> bool
 pub fn read_book(book: &[u8]) -> Counts
     ensures { λ r. ⌜ statedCounts r ≡ readBook (now (book .entry)) ⌝ }
 {
-    let opening = files::read_opening(book, &files::BOOK_MARK);
+    let opening = files::read_opening(book, &files::BOOK_MARK, 2);
     if let Step::Refused(r) = opening {
         return Counts::Refused(r);
     }
@@ -64,7 +65,7 @@ pub fn read_book(book: &[u8]) -> Counts
     if is_outside(calls) {
         return Counts::Refused(Refusal::CountOutside);
     }
-    let rows = read_rows(&book[7..], lots, calls);
+    let rows = read_rows(&book[7..], inner::version_of(book), lots, calls);
     match rows {
         Step::Passes => Counts::Are(lots, calls),
         Step::Refused(r) => Counts::Refused(r),
@@ -108,7 +109,7 @@ pub fn pair_cost(book: &[u8], lot: Lot, call: Call) -> Cost
     let at = inner::row_at(book, lot);
     let row = &book[at..];
     if word::is_set(files::u32_at(row, 0), j) {
-        Cost::Of(row::cost_in(row, call))
+        Cost::Of(signed::held_cost(row::cost_in(row, call), inner::version_of(book)))
     } else {
         Cost::NotEligible
     }

@@ -17,7 +17,7 @@ pub fn size(row: &[u8]) -> usize
     4 + 4 * super::word::count(files::u32_at(row, 0))
 }
 
-// The cost of a call: the costs of the lower set bits stand between the word and it.
+// The 32 bits of the cost of a call: the costs of the lower set bits stand between the word and it.
 pub fn cost_in(row: &[u8], call: Call) -> u32
     ensures { λ r. ⌜ r ≡ rowCost (now (row .entry)) (call .0) ⌝ }
 {
@@ -26,17 +26,18 @@ pub fn cost_in(row: &[u8], call: Call) -> u32
     files::u32_at(row, 4 + 4 * super::word::count_below(word, j))
 }
 
-// The first cost above the limit, lowest bit first, of a row that stands whole in the book.
-fn first_above(row: &[u8], lot: Lot, calls: usize) -> Step
+// The first cost outside the range of a version, lowest bit first, of a row that stands whole in the book.
+fn first_outside(row: &[u8], version: u16, lot: Lot, calls: usize) -> Step
     requires { ⌜ rowSize (now row) ≤ length (now row) ⌝ }
-    ensures { λ r. ⌜ statedStep r ≡ readCosts (now (row .entry)) (lot .0) calls 0 ⌝ }
+    ensures { λ r. ⌜ statedStep r ≡ readCosts version (now (row .entry)) (lot .0) calls 0 ⌝ }
 {
+    let base = super::signed::cost_base(version);
     let word = files::u32_at(row, 0);
     let i = lot.0;
     let mut at = 4;
     for j in 0..calls {
         if super::word::is_set(word, j) {
-            if COST_LIMIT < super::inner::cost_at(row, at) {
+            if COST_LIMIT + base < super::signed::lifted(super::inner::cost_at(row, at), base) {
                 return Step::Refused(Refusal::CostTooHigh(Lot(i), Call(j)));
             }
             at += 4;
@@ -45,21 +46,22 @@ fn first_above(row: &[u8], lot: Lot, calls: usize) -> Step
     Step::Passes
 }
 
-// The costs of a row that stands whole in the book: none may be above the limit. Only where one is, they are gone through by call.
-fn read_costs(row: &[u8], lot: Lot, calls: usize) -> Step
+// The costs of a row that stands whole in the book: none may be outside the range. Only where one is, they are gone through by call.
+fn read_costs(row: &[u8], version: u16, lot: Lot, calls: usize) -> Step
     requires { ⌜ rowSize (now row) ≤ length (now row) ⌝ }
-    ensures { λ r. ⌜ statedStep r ≡ readCosts (now (row .entry)) (lot .0) calls 0 ⌝ }
+    ensures { λ r. ⌜ statedStep r ≡ readCosts version (now (row .entry)) (lot .0) calls 0 ⌝ }
 {
+    let base = super::signed::cost_base(version);
     let costs = super::word::count(files::u32_at(row, 0));
-    if super::inner::all_within(row, 4, costs, COST_LIMIT) {
+    if super::inner::all_within(row, 4, costs, base, COST_LIMIT + base) {
         return Step::Passes;
     }
-    first_above(row, lot, calls)
+    first_outside(row, version, lot, calls)
 }
 
 // The row of a lot: its word, and then its costs.
-pub fn read_row(row: &[u8], lot: Lot, calls: usize) -> Step
-    ensures { λ r. ⌜ statedStep r ≡ readRow (now (row .entry)) (lot .0) calls ⌝ }
+pub fn read_row(row: &[u8], version: u16, lot: Lot, calls: usize) -> Step
+    ensures { λ r. ⌜ statedStep r ≡ readRow version (now (row .entry)) (lot .0) calls ⌝ }
 {
     if row.len() < 4 {
         return Step::Refused(Refusal::EndsEarly);
@@ -70,5 +72,5 @@ pub fn read_row(row: &[u8], lot: Lot, calls: usize) -> Step
     if row.len() < size(row) {
         return Step::Refused(Refusal::EndsEarly);
     }
-    read_costs(row, lot, calls)
+    read_costs(row, version, lot, calls)
 }

@@ -4,7 +4,7 @@ use book::inner::pair_count;
 use book::inner::set_from;
 use slacks::PAIRS;
 use slacks::SIDE;
-use slacks::SLACK_MOST;
+use slacks::SLACK_OF_ZERO;
 use specification::Lot;
 ghost use mathlib.Core.Path.{_≡_};
 ghost use Prim.Native.Nat.{_+_, _-_, _^_, _≤_, _<_};
@@ -18,6 +18,14 @@ ghost use Rattle.specification.specs.Book.{bookLots, readBook, problemOf};
 ghost use Rattle.slacks.specs.Slacks.{bySlacks, Slacks};
 ghost use Rattle.finder.specs.Filling.{AtLot};
 
+// The slack of a cost, of the 32 bits that a readable book of either version holds.
+fn slack_of(held: u32) -> u32
+    requires { ⌜ liftedCost costLimit held ≤ costLimit + costLimit ⌝ }
+    ensures { λ r. ⌜ r ≡ suc (costLimit + costLimit) - liftedCost costLimit held ⌝ }
+{
+    std::num::wrapping_sub_u32(SLACK_OF_ZERO, held)
+}
+
 // Enters the slacks of the lot whose row starts at a byte, set bit by set bit. The byte at which the next row starts.
 fn enter_set(book: &[u8], at: usize, lot: Lot, word: u32, slacks: &mut [u32; PAIRS]) -> usize
     requires { ⌜ AtLot (now book) (lot .0) at (now slacks) × (lot .0 < bookLots (now book)) × (word ≡ u32At (now book) at) ⌝ }
@@ -27,7 +35,7 @@ fn enter_set(book: &[u8], at: usize, lot: Lot, word: u32, slacks: &mut [u32; PAI
     let mut next = at + 4;
     let mut j = set_from(word, 0);
     while j < 32 {
-        slacks[SIDE * j + i] = SLACK_MOST - cost_at(book, next);
+        slacks[SIDE * j + i] = slack_of(cost_at(book, next));
         next += 4;
         j = set_from(word, j + 1);
     }
@@ -43,7 +51,7 @@ fn enter_all(book: &[u8], at: usize, lot: Lot, m: usize, slacks: &mut [u32; PAIR
     let i = lot.0;
     let start = at + 4;
     for j in 0..m {
-        slacks[SIDE * j + i] = SLACK_MOST - cost_at(book, start + 4 * j);
+        slacks[SIDE * j + i] = slack_of(cost_at(book, start + 4 * j));
     }
     start + 4 * m
 }
@@ -97,6 +105,6 @@ pub fn add_idle(slacks: &mut [u32; PAIRS], n: usize, m: usize)
     ensures { λ r. ⌜ Slacks (now (slacks .exit)) n (m + 1) ⌝ }
 {
     for i in 0..n {
-        slacks[SIDE * m + i] = SLACK_MOST;
+        slacks[SIDE * m + i] = SLACK_OF_ZERO;
     }
 }

@@ -113,10 +113,18 @@ fn entries(flow: &[u32]) {
     }
 }
 
-fn verdict(name: &[u8], units: u64, cost: u64) {
+fn signed(v: i64) {
+    word(b" ");
+    if book::signed::below_zero(v) {
+        word(b"-");
+    }
+    io::print_decimal(1, book::signed::size(v));
+}
+
+fn verdict(name: &[u8], units: u64, cost: i64) {
     word(name);
     number(units);
-    number(cost);
+    signed(cost);
 }
 
 pub fn placed(label: &[u8], entry_point: &[u8], answer: Placed, flow: &[u32]) {

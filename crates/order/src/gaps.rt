@@ -11,10 +11,10 @@ ghost use Rattle.specification.specs.Book.{bit};
 ghost use Rattle.book.specs.Table.{entry};
 ghost use Rattle.order.specs.Gaps.{gapTop, gapOver, CanLower, CanLowerRow, CanLowerSet, Singles, GapLowered, Lowered};
 
-// What a difference of two costs is raised by, and the highest gap: of a cost at the limit over one of 0.
-const RAISE: u32 = COST_LIMIT + 1;
+// What a difference of two costs is raised by, and the highest gap: of a cost at the limit over one as far below zero.
+const RAISE: u32 = 2 * COST_LIMIT + 1;
 
-pub const GAP_TOP: u32 = COST_LIMIT + RAISE;
+pub const GAP_TOP: u32 = 2 * COST_LIMIT + RAISE;
 
 // For each call, the word that has it alone.
 pub fn singles() -> [u32; 32]
@@ -61,7 +61,7 @@ fn lower(
 {
     let call = j.0;
     let other = l.0;
-    let new = own + RAISE - book::inner::cost_at(book, at);
+    let new = std::num::wrapping_sub_u32(own + RAISE - COST_LIMIT, book::inner::cost_at(book, at));
     let old = least[32 * call + other];
     let over = under(old, new);
     least[32 * call + other] = pick(over, old, new);

@@ -87,7 +87,7 @@ pub fn check_by(book: &[u8], offsets: &[u16; 1024], n: usize, m: usize, order: &
     requires { ⌜ (readBook (now book) ≡ gives (record { lots = n; calls = m })) × (now offsets ≡ offsetTable (now book)) ⌝ }
     ensures { λ r. ⌜ statedChecked r ≡ checkOrder (now (book .entry)) (now (order .entry)) ⌝ }
 {
-    let opening = files::read_opening(order, &files::ORDER_MARK);
+    let opening = files::read_opening(order, &files::ORDER_MARK, 1);
     if let Step::Refused(r) = opening {
         return Checked::Refused(r);
     }

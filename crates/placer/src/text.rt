@@ -7,7 +7,7 @@ ghost use mathlib.Core.Path.{_≡_};
 ghost use mathlib.Core.List.{[], _∷_};
 ghost use Prim.Native.Nat.{_+_, _*_, _≤_, _<_};
 ghost use lib.ListN.{length, take};
-ghost use Rattle.specification.specs.Text.{decimal, line, refusedWord, pairLines};
+ghost use Rattle.specification.specs.Text.{decimal, decimalℤ, line, refusedWord, pairLines};
 ghost use Rattle.placer.specs.Rendering.{Appended, Room, AppendedWithin, lineOf, answerText, CountsFit, Rendered};
 ghost use Rattle.placer.specs.Rendering.{pairMost, pairsMost, refusalMost, textMost};
 
@@ -44,6 +44,19 @@ fn number(out: &mut [u8], at: usize, n: u64) -> usize
     }
     let next = number(out, at, n / 10);
     put(out, next, 48 + (n % 10) as u8)
+}
+
+// A number with a minus where it is below zero.
+fn signed_number(out: &mut [u8], at: usize, v: i64) -> usize
+    requires { ⌜ Room (now out) at (decimalℤ v) ⌝ }
+    ensures { λ r. ⌜ Appended at (now (out .entry)) (decimalℤ v) r (now (out .exit)) ⌝ }
+{
+    let size = book::signed::size(v);
+    if book::signed::below_zero(v) {
+        let next = put(out, at, b'-');
+        return number(out, next, size);
+    }
+    number(out, at, size)
 }
 
 // A space and a number: a field after the first.
@@ -102,12 +115,23 @@ fn pair_lines(out: &mut [u8], at: usize, n: usize, m: usize, flow: &[u32; 1024])
     next
 }
 
+// The rest of the first line: units and cost.
+fn units_and_cost(out: &mut [u8], at: usize, units: u64, cost: i64) -> usize
+    requires { ⌜ Room (now out) at (32 ∷ line (decimal units) (decimalℤ cost ∷ [])) ⌝ }
+    ensures { λ r. ⌜ Appended at (now (out .entry)) (32 ∷ line (decimal units) (decimalℤ cost ∷ [])) r (now (out .exit)) ⌝ }
+{
+    let next = field(out, at, units);
+    let space = put(out, next, b' ');
+    let end = signed_number(out, space, cost);
+    put(out, end, b'\n')
+}
+
 // The text of an answer that is no refusal: the first line, and the pairs' lines.
 fn answer_text(
     out: &mut [u8],
     verdict: &[u8],
     units: u64,
-    cost: u64,
+    cost: i64,
     n: usize,
     m: usize,
     flow: &[u32; 1024],
@@ -118,7 +142,7 @@ fn answer_text(
         (now (out .exit)) ⌝ }
 {
     let first = word(out, 0, verdict);
-    let next = last_two(out, first, units, cost);
+    let next = units_and_cost(out, first, units, cost);
     pair_lines(out, next, n, m, flow)
 }
 

@@ -66,7 +66,7 @@ pub fn cost(reply: Cost) -> Answer
     ensures { λ r. ⌜ r ≡ answerOf costOf (statedCost reply) ⌝ }
 {
     match reply {
-        Cost::Of(cost) => accepted(0, 1, cost as u64),
+        Cost::Of(cost) => accepted(0, 1, book::signed::bits(cost)),
         Cost::NotEligible => accepted(0, 0, 0),
         Cost::Outside => accepted(0, 0, 0),
         Cost::Refused(cause) => refused(cause),
@@ -88,9 +88,9 @@ pub fn placed(reply: Placed) -> Answer
     ensures { λ r. ⌜ r ≡ answerOf placed (statedPlaced reply) ⌝ }
 {
     match reply {
-        Placed::Full(units, cost) => accepted(1, units, cost),
-        Placed::Covered(units, cost) => accepted(3, units, cost),
-        Placed::Short(units, cost) => accepted(2, units, cost),
+        Placed::Full(units, cost) => accepted(1, units, book::signed::bits(cost)),
+        Placed::Covered(units, cost) => accepted(3, units, book::signed::bits(cost)),
+        Placed::Short(units, cost) => accepted(2, units, book::signed::bits(cost)),
         Placed::Refused(cause) => refused(cause),
     }
 }

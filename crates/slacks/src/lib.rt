@@ -14,8 +14,11 @@ pub const SIDE: usize = 32;
 // How many pairs they have room for.
 pub const PAIRS: usize = SIDE * SIDE;
 
-// The highest slack, that of a cost of 0: one more than the limit, so that each eligible pair has some.
-pub const SLACK_MOST: u32 = COST_LIMIT + 1;
+// The slack of a cost of 0: one more than the limit, so that each eligible pair has some.
+pub const SLACK_OF_ZERO: u32 = COST_LIMIT + 1;
+
+// The highest slack, that of the lowest cost.
+pub const SLACK_MOST: u32 = COST_LIMIT + SLACK_OF_ZERO;
 
 // How many pairs the order has, or that there is none.
 pub enum Search {

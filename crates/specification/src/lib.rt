@@ -1,6 +1,7 @@
 // The words of document 01 as types: lot and call numbers, the refusals, and the answer of each entry point.
 
-// "Costs are .. 0 to 1,000,000" and "Amounts are .. 0 to 1,000,000,000" (Words): the highest of each.
+// "Costs are .. 0 to 1,000,000" and "Amounts are .. 0 to 1,000,000,000" (Words): the highest of each. In version 2 of a book costs are
+// "from -1,000,000 to 1,000,000" (document 02, request 4).
 pub const COST_LIMIT: u32 = 1_000_000;
 
 pub const AMOUNT_LIMIT: u32 = 1_000_000_000;
@@ -18,7 +19,7 @@ pub enum Refusal {
     UnderSeven,
     // 2: mark differs
     MarkDiffers,
-    // 3: version not 1
+    // 3: version not 1; of a book, "another version than 1 or 2" (document 02, request 4)
     VersionNotOne,
     // 4: book's n or m is 0 or above 32
     CountOutside,
@@ -26,7 +27,7 @@ pub enum Refusal {
     BitOutside(Lot),
     // 6: file ends before its last field
     EndsEarly,
-    // 7: cost above 1,000,000; lot, call
+    // 7: cost above 1,000,000; in version 2 of a book outside -1,000,000 to 1,000,000; lot, call
     CostTooHigh(Lot, Call),
     // 8: bytes after the last field
     BytesAfter,
@@ -67,11 +68,12 @@ pub enum Checked {
 }
 
 // "The answer is Full (units, cost) if nothing is left in any lot or call" (Running an order), "Covered (units, cost) when every call is met
-// and some lot has units left; Short when a call still lacks units" (document 02, request 1).
+// and some lot has units left; Short when a call still lacks units" (document 02, request 1). "The cost of one pair and the cost of a run
+// become signed for every caller" (request 4).
 pub enum Placed {
-    Full(u64, u64),
-    Covered(u64, u64),
-    Short(u64, u64),
+    Full(u64, i64),
+    Covered(u64, i64),
+    Short(u64, i64),
     Refused(Refusal),
 }
 
