@@ -6,13 +6,14 @@ use lib.Dec.{eqb}
 use Rattle.transport.specs.Problem.{Problem, sum}
 use Rattle.transport.specs.Greedy.{Pair, put, State, greedy}
 
--- "the enlarged book": one call more, the last, and "every lot is eligible for it at cost 0"
-abbrev pub withIdle : Problem → Problem
-withIdle P = record {
+-- "the enlarged book": one call more, the last, and "every lot is eligible for it at cost 0"; where a base is added to every cost of the
+-- problem (`Lifts`), it is added to this one
+abbrev pub withIdle : ℕ → Problem → Problem
+withIdle base P = record {
   lots = P .lots;
   calls = suc (P .calls);
   admits = λ i j. eqb j (P .calls) || P .admits i j;
-  cost = λ i. put (P .cost i) (P .calls) 0;
+  cost = λ i. put (P .cost i) (P .calls) base;
 }
 
 -- its amount: "the lots' total less the calls' total" (where the calls' total is higher, the run is refused)

@@ -32,7 +32,7 @@ spare-order = pair 0 2 ∷ pair 0 0 ∷ pair 0 1 ∷ pair 1 0 ∷ pair 1 1 ∷ p
 abbrev idle : State
 idle = greedyIdle spare spare-order (listed (3 ∷ 4 ∷ [])) (listed (3 ∷ 2 ∷ []))
 
-spare-found : (find spare ≡ some (pair 0 0 ∷ pair 0 1 ∷ pair 1 0 ∷ pair 1 1 ∷ [])) × (find (withIdle spare) ≡ some spare-order)
+spare-found : (find spare ≡ some (pair 0 0 ∷ pair 0 1 ∷ pair 1 0 ∷ pair 1 1 ∷ [])) × (find (withIdle 0 spare) ≡ some spare-order)
 unfolding every first takeFrom sum
 spare-found = (refl, refl)
 
@@ -48,6 +48,6 @@ spare-runs = (refl, refl, refl, refl, refl, refl, refl, refl, refl, refl, refl, 
 -- so 9 is the least cost of meeting every call
 spare-least : (x : ℕ → ℕ → ℕ) → MeetsCalls spare (listed (3 ∷ 4 ∷ [])) (listed (3 ∷ 2 ∷ [])) x → 9 ≤ totalCost spare x
 spare-least x m =
-    let (order, monge) = finder-sound (withIdle spare) spare-order (spare-found .1) in
-    let (_, _, least) = idle-cheapest spare order (listed (3 ∷ 4 ∷ [])) (listed (3 ∷ 2 ∷ [])) monge x m in
+    let (order, monge) = finder-sound (withIdle 0 spare) spare-order (spare-found .1) in
+    let (_, _, least) = idle-cheapest 0 spare order (listed (3 ∷ 4 ∷ [])) (listed (3 ∷ 2 ∷ [])) monge x m in
     subst (λ (n : ℕ). n ≤ totalCost spare x) (spare-runs .5) least

@@ -1,0 +1,144 @@
+-- Laws of costs by version: a cost that is not outside its version's range is the lifted cost less the base, and the test for 7 is one of
+-- the lifted cost alone. Then the ends of the range, computed.
+use mathlib.Core.Path.{_≡_, refl, sym, _∙_, ap}
+use mathlib.Core.Logic.{by-cases}
+use mathlib.Core.Bool.{Bool, true, false, cond, _||_, or-false, true≢false}
+use Prim.Native.Nat.{ℕ, suc, _+_, _-_, _≤_, _<_}
+use native.Mathlib.Decide.{decLt}
+use native.Mathlib.Omega.{arith}
+use borrow.Author.Tests.{lt-ltb, le-ltb, ltb-false}
+use lib.Dec.{ltb, eqb, ltb→lt, lt→ltb}
+use lib.IntN.{ℤ, pos, negsuc, negℤ, _+ℤ_, _-ℤ_, +ℤ-negℤ-cancel}
+use lib.Signed.{ltZ, _≤ℤ_, ltZ-no}
+use mir.Syntax.{w32}
+use mir.Val.{toZ}
+use Rattle.transport.proofs.Laws.Tests.{T-ext}
+use Rattle.transport.proofs.Laws.Integers.{added-of}
+use Rattle.specification.specs.Book.{costLimit}
+use Rattle.specification.specs.Costs.{twosComplement, heldCost, costBase, costOutside, liftedCost}
+
+-- the three parts that two's complement has of the natural numbers; the last has no 32-bit number in it
+module _ (raw : ℕ) (X : ℤ → Type 0) (low : raw < 2147483648 → X (pos raw))
+    (high : 2147483648 ≤ raw → raw < 4294967296 → X (negsuc (4294967296 - suc raw)))
+    (beyond : 4294967296 ≤ raw → X (pos (raw - 4294967296))) where
+  twos-cases : X (twosComplement raw)
+  twos-cases = by-cases (decLt raw 2147483648) (λ h. rw (lt-ltb raw 2147483648 h) (low h)) (λ h. by-sign (omega arith))
+    where
+      by-sign : 2147483648 ≤ raw → X (twosComplement raw)
+      by-sign h = rw (le-ltb raw 2147483648 h) (by-cases (decLt raw 4294967296)
+          (λ g. rw (lt-ltb raw 4294967296 g) (high h g))
+          (λ g. rw (le-ltb raw 4294967296 (omega arith)) (beyond (omega arith))))
+
+pub base-within : (version : ℕ) → costBase version ≤ costLimit
+base-within version = elim (eqb version 2) as (λ b. cond b costLimit 0 ≤ costLimit) [ true ↦ omega arith | false ↦ omega arith ]
+
+-- a number z is outside a range of this base
+abbrev outside : ℕ → ℤ → Bool
+outside base z = ltZ z (negℤ (pos base)) || ltZ (pos costLimit) z
+
+or-says-no : (a b : Bool) → a || b ≡ false → (a ≡ false) × (b ≡ false)
+or-says-no true b e = absurd (true≢false e)
+or-says-no false b e = (refl, e)
+
+-- a number z that is not outside is the lifted cost less the base, and the lifted cost is at most the limit above the base
+pub record Lifted (base raw : ℕ) (z : ℤ) : Type 0 where
+  pub lifted : z +ℤ pos base ≡ pos (liftedCost base raw)
+  pub within : liftedCost base raw ≤ costLimit + base
+
+unsigned-lifted : (raw : ℕ) → outside 0 (pos raw) ≡ false → Lifted 0 raw (pos raw)
+unsigned-lifted raw e =
+    let low = ltb-false costLimit raw (or-says-no (ltb raw 0) _ e .1) in
+    record { lifted = ap pos (omega arith); within = omega arith }
+
+signed-lifted : (raw : ℕ) → outside costLimit (twosComplement raw) ≡ false → Lifted costLimit raw (twosComplement raw)
+signed-lifted raw = twos-cases raw (λ z. outside costLimit z ≡ false → Lifted costLimit raw z) positive negative beyond
+  where
+    positive : raw < 2147483648 → ltb costLimit raw ≡ false → Lifted costLimit raw (pos raw)
+    positive h e = let low = ltb-false costLimit raw e in record { lifted = ap pos (omega arith); within = omega arith }
+
+    negative : 2147483648 ≤ raw → raw < 4294967296 → ltb 999999 (4294967296 - suc raw) || false ≡ false
+        → Lifted costLimit raw (negsuc (4294967296 - suc raw))
+    negative h g e =
+        let low = ltb-false 999999 (4294967296 - suc raw) (or-says-no _ false e .0) in
+        record { lifted = added-of (negsuc (4294967296 - suc raw)) costLimit _ (omega arith); within = omega arith }
+
+    beyond : 4294967296 ≤ raw → ltb costLimit (raw - 4294967296) ≡ false → Lifted costLimit raw (pos (raw - 4294967296))
+    beyond h e =
+        let low = ltb-false costLimit (raw - 4294967296) e in
+        record { lifted = ap pos (omega arith); within = omega arith }
+
+pub cost-lifted : (version raw : ℕ) → costOutside version raw ≡ false → Lifted (costBase version) raw (heldCost version raw)
+cost-lifted version raw = by-version (eqb version 2)
+  where
+    by-version : (b : Bool) → outside (cond b costLimit 0) (cond b (twosComplement raw) (pos raw)) ≡ false
+        → Lifted (cond b costLimit 0) raw (cond b (twosComplement raw) (pos raw))
+    by-version true = signed-lifted raw
+    by-version false = unsigned-lifted raw
+
+-- the range, as an order
+pub cost-range : (version raw : ℕ) → costOutside version raw ≡ false
+    → (negℤ (pos (costBase version)) ≤ℤ heldCost version raw) × (heldCost version raw ≤ℤ pos costLimit)
+cost-range version raw e =
+    let z : ℤ = heldCost version raw in
+    let (low, high) = or-says-no (ltZ z (negℤ (pos (costBase version)))) (ltZ (pos costLimit) z) e in
+    (ltZ-no (rw low tt), ltZ-no (rw high tt))
+
+-- so it is the lifted cost less the base
+pub cost-held : (version raw : ℕ) → costOutside version raw ≡ false
+    → heldCost version raw ≡ pos (liftedCost (costBase version) raw) -ℤ pos (costBase version)
+cost-held version raw e =
+    sym (+ℤ-negℤ-cancel (heldCost version raw) (pos (costBase version)))
+    ∙ ap (λ z. z -ℤ pos (costBase version)) (cost-lifted version raw e .lifted)
+
+-- of 32-bit numbers the test is one of the lifted cost
+ltb-same : (a b c d : ℕ) → (a < b → c < d) → (c < d → a < b) → ltb a b ≡ ltb c d
+ltb-same a b c d f g = T-ext (ltb a b) (ltb c d) (λ t. lt→ltb c d (f (ltb→lt a b t))) (λ t. lt→ltb a b (g (ltb→lt c d t)))
+
+abbrev Tested : ℕ → ℕ → ℤ → Type 0
+Tested base raw z = outside base z ≡ ltb (costLimit + base) (liftedCost base raw)
+
+unsigned-tested : (raw : ℕ) → raw < 4294967296 → Tested 0 raw (pos raw)
+unsigned-tested raw fits =
+    rw (le-ltb raw 0 (omega arith))
+    (ltb-same costLimit raw costLimit (liftedCost 0 raw) (λ h. omega arith) (λ h. omega arith))
+
+signed-tested : (raw : ℕ) → raw < 4294967296 → Tested costLimit raw (twosComplement raw)
+signed-tested raw fits = twos-cases raw (Tested costLimit raw)
+    (λ h. ltb-same costLimit raw 2000000 (liftedCost costLimit raw) (λ g. omega arith) (λ g. omega arith))
+    (λ h g. or-false (ltb 999999 (4294967296 - suc raw)) ∙ negative h)
+    (λ h. absurd (omega arith))
+  where
+    negative : 2147483648 ≤ raw → ltb 999999 (4294967296 - suc raw) ≡ ltb 2000000 (liftedCost costLimit raw)
+    negative h =
+        ltb-same 999999 (4294967296 - suc raw) 2000000 (liftedCost costLimit raw) (λ g. omega arith) (λ g. omega arith)
+
+pub cost-tested : (version raw : ℕ) → raw < 4294967296
+    → costOutside version raw ≡ ltb (costLimit + costBase version) (liftedCost (costBase version) raw)
+cost-tested version raw fits = by-version (eqb version 2)
+  where
+    by-version : (b : Bool) → Tested (cond b costLimit 0) raw (cond b (twosComplement raw) (pos raw))
+    by-version true = signed-tested raw fits
+    by-version false = unsigned-tested raw fits
+
+-- and two's complement is the machine's own reading of 32 bits
+pub twos-complement-is : (raw : ℕ) → raw < 4294967296 → twosComplement raw ≡ toZ w32 raw
+twos-complement-is raw fits = twos-cases raw (λ z. z ≡ toZ w32 raw)
+    (λ h. rw (lt-ltb raw 2147483648 h))
+    (λ h g. rw (le-ltb raw 2147483648 h))
+    (λ h. absurd (omega arith))
+
+-- Version 2: fff0bdc0 is -1,000,000 and the number below it is outside, 000f4240 is 1,000,000 and the number above it is outside;
+-- ffffffff is -1, and 80000000, the lowest of all, is outside
+signed-ends : (heldCost 2 0xfff0bdc0 ≡ negℤ (pos 1000000)) × (costOutside 2 0xfff0bdc0 ≡ false) × (liftedCost costLimit 0xfff0bdc0 ≡ 0)
+    × (heldCost 2 0xfff0bdbf ≡ negℤ (pos 1000001)) × (costOutside 2 0xfff0bdbf ≡ true)
+    × (heldCost 2 0x000f4240 ≡ pos 1000000) × (costOutside 2 0x000f4240 ≡ false) × (liftedCost costLimit 0x000f4240 ≡ 2000000)
+    × (heldCost 2 0x000f4241 ≡ pos 1000001) × (costOutside 2 0x000f4241 ≡ true)
+    × (heldCost 2 0xffffffff ≡ negℤ (pos 1)) × (costOutside 2 0xffffffff ≡ false) × (liftedCost costLimit 0xffffffff ≡ 999999)
+    × (heldCost 2 0x80000000 ≡ negℤ (pos 2147483648)) × (costOutside 2 0x80000000 ≡ true)
+signed-ends = (refl, refl, refl, refl, refl, refl, refl, refl, refl, refl, refl, refl, refl, refl, refl)
+
+-- Version 1: all of these are numbers from 0 up, and of them only 000f4240 is not outside
+unsigned-ends : (heldCost 1 0x000f4240 ≡ pos 1000000) × (costOutside 1 0x000f4240 ≡ false) × (liftedCost 0 0x000f4240 ≡ 1000000)
+    × (costOutside 1 0x000f4241 ≡ true) × (costOutside 1 0x80000000 ≡ true) × (costOutside 1 0xfff0bdbf ≡ true)
+    × (costOutside 1 0xfff0bdc0 ≡ true) × (heldCost 1 0xffffffff ≡ pos 4294967295) × (costOutside 1 0xffffffff ≡ true)
+unsigned-ends = (refl, refl, refl, refl, refl, refl, refl, refl, refl)
