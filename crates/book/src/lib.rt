@@ -25,7 +25,7 @@ pub enum Cost {
 
 // The rows of lots 0 to `lots` - 1, in the part of the book that starts at the first one's word; no byte may follow them.
 fn read_rows(rows: &[u8], version: u16, lots: usize, calls: usize) -> Step
-    ensures { λ r. ⌜ statedStep r ≡ readRows version (now (rows .entry)) 0 lots calls ⌝ }
+    ensures { λ r. ⌜ statedStep r ≡ readRows (now (rows .entry)) version 0 lots calls ⌝ }
 {
     let mut at = 0;
     for lot in 0..lots {

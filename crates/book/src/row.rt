@@ -29,7 +29,7 @@ pub fn cost_in(row: &[u8], call: Call) -> u32
 // The first cost outside the range of a version, lowest bit first, of a row that stands whole in the book.
 fn first_outside(row: &[u8], version: u16, lot: Lot, calls: usize) -> Step
     requires { ⌜ rowSize (now row) ≤ length (now row) ⌝ }
-    ensures { λ r. ⌜ statedStep r ≡ readCosts version (now (row .entry)) (lot .0) calls 0 ⌝ }
+    ensures { λ r. ⌜ statedStep r ≡ readCosts (now (row .entry)) version (lot .0) calls 0 ⌝ }
 {
     let base = super::signed::cost_base(version);
     let word = files::u32_at(row, 0);
@@ -49,7 +49,7 @@ fn first_outside(row: &[u8], version: u16, lot: Lot, calls: usize) -> Step
 // The costs of a row that stands whole in the book: none may be outside the range. Only where one is, they are gone through by call.
 fn read_costs(row: &[u8], version: u16, lot: Lot, calls: usize) -> Step
     requires { ⌜ rowSize (now row) ≤ length (now row) ⌝ }
-    ensures { λ r. ⌜ statedStep r ≡ readCosts version (now (row .entry)) (lot .0) calls 0 ⌝ }
+    ensures { λ r. ⌜ statedStep r ≡ readCosts (now (row .entry)) version (lot .0) calls 0 ⌝ }
 {
     let base = super::signed::cost_base(version);
     let costs = super::word::count(files::u32_at(row, 0));
@@ -61,7 +61,7 @@ fn read_costs(row: &[u8], version: u16, lot: Lot, calls: usize) -> Step
 
 // The row of a lot: its word, and then its costs.
 pub fn read_row(row: &[u8], version: u16, lot: Lot, calls: usize) -> Step
-    ensures { λ r. ⌜ statedStep r ≡ readRow version (now (row .entry)) (lot .0) calls ⌝ }
+    ensures { λ r. ⌜ statedStep r ≡ readRow (now (row .entry)) version (lot .0) calls ⌝ }
 {
     if row.len() < 4 {
         return Step::Refused(Refusal::EndsEarly);

@@ -6,14 +6,16 @@ use mathlib.Core.List.{List, [], _∷_, _++_}
 use Prim.Native.Nat.{ℕ}
 use lib.ListN.{replicate, take}
 use lib.Count.{ones, onesIn}
+use lib.IntN.{pos}
 use Rattle.transport.specs.Problem.{sum}
 use Rattle.transport.specs.Greedy.{Pair, pair, giveAll}
+use Rattle.transport.specs.Signed.{sumℤ}
 use Rattle.transport.specs.Order.{times}
 use Rattle.transport.specs.Finder.{every, first, takeFrom}
 use Rattle.specification.specs.declared.Quadruple.the-variants.{Holds, NotEligible, TooHigh}
 use Rattle.specification.specs.Reply.{gives, refuses, full, covered, short, statedQuadruple}
 use Rattle.specification.specs.Bytes.{u16At, u32At, bookMark, amountsMark, readOpening}
-use Rattle.specification.specs.Book.{readCosts, readRow, readRows, readBook, rowAt, rowStart, costStart, problemOf, lotCosts}
+use Rattle.specification.specs.Book.{readCosts, readRow, readRows, readBook, rowAt, rowStart, costStart, problemOf, costsOf, lotCosts}
 use Rattle.specification.specs.OrderFile.{pairs, pairBytes, orderFile}
 use Rattle.specification.specs.Check.{checkPairs, checkQuadruple, inTurn, checkMonge, checkOrder}
 use Rattle.specification.specs.Amounts.{readAmountsOf, readAmounts}
@@ -21,27 +23,27 @@ use Rattle.specification.specs.Run.{tabulate, flowOf, runOrder, runFlow}
 use Rattle.specification.specs.Find.{foundOrder, findOrder, findBuffer, foundToRun, findAndRun, findAndRunFlow}
 use Rattle.specification.specs.Idle.{foundToRunIdle, findAndRunIdle, findAndRunIdleFlow}
 use Rattle.specification.specs.Text.{digits, line, pairLines, textOf, printed}
-use Rattle.specification.specs.Requests.{heldCost}
+use Rattle.specification.specs.Requests.{costInBook}
 use Rattle.specification.specs.Examples.{words, book, amounts, book1235, amounts5436, bookGap, bookDiagonal}
 
 -- 1,000,000 and 1,000,001 as costs, 1,000,000,000 and 1,000,000,001 as amounts
-abbrev highestCost : List ℕ
+abbrev pub highestCost : List ℕ
 highestCost = 64 ∷ 66 ∷ 15 ∷ 0 ∷ []
 
-abbrev highCost : List ℕ
+abbrev pub highCost : List ℕ
 highCost = 65 ∷ 66 ∷ 15 ∷ 0 ∷ []
 
-abbrev highestAmount : List ℕ
+abbrev pub highestAmount : List ℕ
 highestAmount = 0 ∷ 202 ∷ 154 ∷ 59 ∷ []
 
 abbrev highAmount : List ℕ
 highAmount = 1 ∷ 202 ∷ 154 ∷ 59 ∷ []
 
 -- a book of one lot and call, and its amounts
-abbrev single : List ℕ → List ℕ
+abbrev pub single : List ℕ → List ℕ
 single cost = book 1 1 (1 ∷ []) ++ cost
 
-abbrev singles : List ℕ → List ℕ
+abbrev pub singles : List ℕ → List ℕ
 singles amount = amounts 1 1 [] ++ (amount ++ amount)
 
 -- F2's order
@@ -124,12 +126,12 @@ pub record OtherCases : Type 0 where
   pub one-by-two : findAndRunFlow (book 1 2 (3 ∷ 0 ∷ 0 ∷ [])) (amounts 1 2 (5 ∷ 2 ∷ 3 ∷ [])) (9 ∷ 9 ∷ 9 ∷ []) ≡ 2 ∷ 3 ∷ 9 ∷ []
   -- Covered where no call asks for the stock, that of the last lot; Short where a call lacks a unit though a lot has one left
   pub nothing-asked : findAndRun bookGap (amounts 2 2 (0 ∷ 2 ∷ 0 ∷ 0 ∷ [])) (replicate 4 7)
-      ≡ gives (record { verdict = covered; units = 0; cost = 0 })
+      ≡ gives (record { verdict = covered; units = 0; cost = pos 0 })
   pub lacks-and-left : findAndRun bookGap (amounts 2 2 (1 ∷ 2 ∷ 1 ∷ 2 ∷ [])) (replicate 4 7)
-      ≡ gives (record { verdict = short; units = 2; cost = 0 })
+      ≡ gives (record { verdict = short; units = 2; cost = pos 0 })
   -- F12
   pub largest : findAndRun (single highestCost) (singles highestAmount) (0 ∷ [])
-      ≡ gives (record { verdict = full; units = 1000000000; cost = 1000000000000000 })
+      ≡ gives (record { verdict = full; units = 1000000000; cost = pos 1000000000000000 })
   -- the marks: CLB, CLA, CLO
   pub book-mark : take 3 book1235 ≡ 67 ∷ 76 ∷ 66 ∷ []
   pub amounts-mark : take 3 amounts5436 ≡ 67 ∷ 76 ∷ 65 ∷ []
@@ -160,9 +162,9 @@ pub record OtherCases : Type 0 where
       ∷ []
 
 pub other-cases : OtherCases
-unfolding u16At u32At readOpening readCosts readRow readRows readBook rowAt problemOf readAmountsOf readAmounts pairs pairBytes
+unfolding u16At u32At readOpening readCosts readRow readRows readBook rowAt problemOf costsOf readAmountsOf readAmounts pairs pairBytes
 other-cases =
-    unfold checkPairs checkQuadruple inTurn checkMonge checkOrder tabulate flowOf sum times giveAll every first takeFrom ones onesIn in
+    unfold checkPairs checkQuadruple inTurn checkMonge checkOrder tabulate flowOf sum sumℤ times giveAll every first takeFrom ones onesIn in
     unfold runOrder runFlow foundOrder findOrder findBuffer foundToRun findAndRun findAndRunFlow digits line pairLines textOf printed in
     record {
       book-before-order = refl;
@@ -228,22 +230,22 @@ amountsSix = amounts 6 1 []
     ++ (highestAmount ++ (highestAmount ++ (highestAmount ++ (highestAmount ++ (highestAmount ++ (highestAmount ++ highestAmount))))))
 
 pub record IdleCases : Type 0 where
-  pub spare : findAndRunIdle bookSpare amountsSpare (replicate 5 8) ≡ gives (record { verdict = covered; units = 5; cost = 9 })
+  pub spare : findAndRunIdle bookSpare amountsSpare (replicate 5 8) ≡ gives (record { verdict = covered; units = 5; cost = pos 9 })
   pub spare-flow : findAndRunIdleFlow bookSpare amountsSpare (replicate 5 8) ≡ 1 ∷ 0 ∷ 2 ∷ 2 ∷ 8 ∷ []
   -- without it lot 1 stays idle
-  pub spare-plain : findAndRun bookSpare amountsSpare (replicate 5 8) ≡ gives (record { verdict = covered; units = 5; cost = 13 })
+  pub spare-plain : findAndRun bookSpare amountsSpare (replicate 5 8) ≡ gives (record { verdict = covered; units = 5; cost = pos 13 })
   -- equal totals: Full; nothing to place: Full
-  pub equal : findAndRunIdle book1235 amounts5436 (replicate 4 8) ≡ gives (record { verdict = full; units = 9; cost = 24 })
-  pub nothing : findAndRunIdle bookSpare (amounts 2 2 (replicate 4 0)) (replicate 4 8) ≡ gives (record { verdict = full; units = 0; cost = 0 })
+  pub equal : findAndRunIdle book1235 amounts5436 (replicate 4 8) ≡ gives (record { verdict = full; units = 9; cost = pos 24 })
+  pub nothing : findAndRunIdle bookSpare (amounts 2 2 (replicate 4 0)) (replicate 4 8) ≡ gives (record { verdict = full; units = 0; cost = pos 0 })
   -- a lot with no eligible call is eligible for the idle one; a call that it alone could meet still lacks units
   pub dear : findAndRunIdle bookDear (amounts 3 1 (3 ∷ 3 ∷ 4 ∷ 5 ∷ [])) (replicate 3 8)
-      ≡ gives (record { verdict = covered; units = 5; cost = 13 })
-  pub bare-short : findAndRunIdle (bookBare 1) (amounts 1 1 (5 ∷ 5 ∷ [])) (8 ∷ []) ≡ gives (record { verdict = short; units = 0; cost = 0 })
+      ≡ gives (record { verdict = covered; units = 5; cost = pos 13 })
+  pub bare-short : findAndRunIdle (bookBare 1) (amounts 1 1 (5 ∷ 5 ∷ [])) (8 ∷ []) ≡ gives (record { verdict = short; units = 0; cost = pos 0 })
   -- the idle call's amount is above 32 bits: the lots with a cost stay idle, all of them
-  pub above-32-bits : findAndRunIdle bookSix amountsSix (replicate 6 8) ≡ gives (record { verdict = covered; units = 1000000000; cost = 0 })
+  pub above-32-bits : findAndRunIdle bookSix amountsSix (replicate 6 8) ≡ gives (record { verdict = covered; units = 1000000000; cost = pos 0 })
   -- with 31 calls the idle one is the last that fits, and with 32 there is none
   pub thirty-one : findAndRunIdle (bookBare 31) (amounts 1 31 (1 ∷ replicate 31 0)) (replicate 31 8)
-      ≡ gives (record { verdict = covered; units = 0; cost = 0 })
+      ≡ gives (record { verdict = covered; units = 0; cost = pos 0 })
   pub no-idle-call : findAndRunIdle (bookBare 32) (amounts 1 32 (1 ∷ 1 ∷ replicate 31 0)) [] ≡ refuses 19 []
   -- 13 is about the enlarged book, and comes last; 17 by the book's own m before it; 19 before 17, 18 before 19, the amounts before 18
   pub found-plainly : findOrder bookCorners (replicate 15 7) ≡ gives 15
@@ -254,9 +256,9 @@ pub record IdleCases : Type 0 where
   pub kept : findAndRunIdleFlow (bookBare 32) (amounts 1 32 (0 ∷ 1 ∷ replicate 31 0)) (8 ∷ []) ≡ 8 ∷ []
 
 pub idle-cases : IdleCases
-unfolding u16At u32At readOpening readCosts readRow readRows readBook rowAt problemOf readAmountsOf readAmounts
+unfolding u16At u32At readOpening readCosts readRow readRows readBook rowAt problemOf costsOf readAmountsOf readAmounts
 idle-cases =
-    unfold tabulate flowOf sum giveAll every first takeFrom ones onesIn foundOrder findOrder foundToRun findAndRun in
+    unfold tabulate flowOf sum sumℤ giveAll every first takeFrom ones onesIn foundOrder findOrder foundToRun findAndRun in
     unfold foundToRunIdle findAndRunIdle findAndRunIdleFlow in
     record {
       spare = refl;
@@ -289,7 +291,7 @@ pub record QuadrupleCases : Type 0 where
   -- the row of lot 1 starts at byte 19, and its cost for call 3 is the third
   pub row-starts : rowStart bookSteps 1 ≡ 19
   pub cost-starts : costStart bookSteps 1 3 ≡ 31
-  pub cost-held : heldCost bookSteps 1 3 ≡ 3
+  pub cost-held : costInBook bookSteps 1 3 ≡ pos 3
 
 pub quadruple-cases : QuadrupleCases
 unfolding u16At u32At rowAt rowStart problemOf checkQuadruple ones onesIn

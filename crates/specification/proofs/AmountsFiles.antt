@@ -31,7 +31,7 @@ use Rattle.specification.proofs.Rows.{Opened, OpeningRefused, opening-s
 use Rattle.specification.proofs.Books.{BookRead, BookRefused, book-says, book-reads}
 
 pub record AmountsRead (size : Size) (s : List ℕ) : Type 0 where
-  pub opened : Opened amountsMark s
+  pub opened : Opened amountsMark 1 s
   pub same-lots : byteAt s 5 ≡ size .lots
   pub same-calls : byteAt s 6 ≡ size .calls
   pub whole : length s ≡ 7 + 4 * (size .lots + size .calls)
@@ -39,14 +39,14 @@ pub record AmountsRead (size : Size) (s : List ℕ) : Type 0 where
 
 -- its opening, and n and m as the book has them
 pub record Alike (size : Size) (s : List ℕ) : Type 0 where
-  pub opened : Opened amountsMark s
+  pub opened : Opened amountsMark 1 s
   pub same-lots : byteAt s 5 ≡ size .lots
   pub same-calls : byteAt s 6 ≡ size .calls
 
 -- 1, 2, 3, 15, 6, 8, 16, each where those before it do not apply
 pub data AmountsRefused (size : Size) (s : List ℕ) : ℕ → List ℕ → Type 0 where
-  amounts-opening : {k : ℕ} {vs : List ℕ} → OpeningRefused amountsMark s k vs → AmountsRefused size s k vs
-  counts-differ : Opened amountsMark s → ((byteAt s 5 ≡ size .lots) × (byteAt s 6 ≡ size .calls) → ⊥) → AmountsRefused size s 15 []
+  amounts-opening : {k : ℕ} {vs : List ℕ} → OpeningRefused amountsMark 1 s k vs → AmountsRefused size s k vs
+  counts-differ : Opened amountsMark 1 s → ((byteAt s 5 ≡ size .lots) × (byteAt s 6 ≡ size .calls) → ⊥) → AmountsRefused size s 15 []
   amounts-end-early : Alike size s → length s < 7 + 4 * (size .lots + size .calls) → AmountsRefused size s 6 []
   amounts-bytes-after : Alike size s → 7 + 4 * (size .lots + size .calls) < length s → AmountsRefused size s 8 []
   amount-too-high : Alike size s → length s ≡ 7 + 4 * (size .lots + size .calls)
@@ -59,7 +59,7 @@ amounts-of-say size s =
     let same-lots : Bool = eqb (byteAt s 5) (size .lots) in
     let same-calls : Bool = eqb (byteAt s 6) (size .calls) in
     let all-within : Bool = every count (λ k. leb (amountAt s k) amountLimit) in
-    says-then _ (opening-says amountsMark s) (λ k vs. amounts-opening) (λ _ opened.
+    says-then _ (opening-says amountsMark 1 s) (λ k vs. amounts-opening) (λ _ opened.
     let same-if : (byteAt s 5 ≡ size .lots) × (byteAt s 6 ≡ size .calls) → T (same-lots && same-calls) = λ (n, m).
     and-of same-lots same-calls (rw n (eqb-refl (size .lots))) (rw m (eqb-refl (size .calls))) in
     let both : Bool = same-lots && same-calls in

@@ -1,9 +1,9 @@
 -- What reading a book says. A readable book has the opening of a book, 1 to 32 lots and calls, for each lot a whole row whose word has
--- no bit past the last call and whose costs are within the limit, and nothing after the last row; and a book with all this is readable.
+-- no bit past the last call and whose costs are within the range, and nothing after the last row; and a book with all this is readable.
 -- A refusal says what its line of the table says, and is the first that applies in the stated sequence.
 use mathlib.Core.Path.{_≡_, refl, sym, _∙_, ap, subst}
-use mathlib.Core.Logic.{_⊎_, inl, inr, ⊎-elim}
-use mathlib.Core.Bool.{Bool, not, _&&_, _||_}
+use mathlib.Core.Logic.{_⊎_, inl, inr, ⊎-elim, _↔_}
+use mathlib.Core.Bool.{Bool, false, not, _&&_, _||_}
 use mathlib.Core.List.{List, []}
 use Prim.Native.Nat.{ℕ, zero, suc, _+_, _*_, _≤_, _<_}
 use native.Mathlib.Nat.{mul-le-mul}
@@ -12,14 +12,19 @@ use lib.Dec.{T, ltb, eqb, ltb→lt, nltb→le, eqb→eq, T-not}
 use lib.Count.{ones-le}
 use lib.ListN.{length, length-drop}
 use Rattle.transport.specs.Problem.{Eligible}
+use Rattle.transport.specs.Greedy.{Pair}
+use Rattle.transport.specs.Order.{Monge, Good}
 use Rattle.transport.specs.Finder.{size}
+use Rattle.transport.specs.Signed.{Lifts, SignedMonge, SignedGood}
 use Rattle.transport.proofs.Laws.Tests.{and-says, or-says, below-suc}
 use Rattle.transport.proofs.Laws.Sets.{count-le}
+use Rattle.transport.proofs.Greedy.Signed.{signed-monge, signed-good}
 use Rattle.specification.specs.Reply.{gives, refuses, Size}
 use Rattle.specification.specs.Bytes.{bookMark}
-use Rattle.specification.specs.Book.{costLimit, largestBook, bit, rowWord, rowSize, bookLots, bookCalls, countOutside}
-use Rattle.specification.specs.Book.{readRows, readBook, rowAt, problemOf}
-use Rattle.specification.specs.Demands.{BookLimits}
+use Rattle.specification.specs.Costs.{costLimit, costBase, costOutside, Allows}
+use Rattle.specification.specs.Book.{largestBook, bit, rowWord, rowSize, rowCost, bookVersion, bookLots, bookCalls, countOutside}
+use Rattle.specification.specs.Book.{readRows, readBook, rowAt, problemOf, costsOf}
+use Rattle.specification.specs.Demands.{Readable, BookLimits}
 use Rattle.specification.proofs.Replies.{
   Says,
   giving,
@@ -31,12 +36,13 @@ use Rattle.specification.proofs.Replies.{
   says-if,
   neither-of-or,
 }
+use Rattle.specification.proofs.Costs.{cost-lifted, cost-range}
 use Rattle.specification.proofs.Rows.{Opened, OpeningRefused, opening-says, opened-not-refused}
 use Rattle.specification.proofs.Rows.{RowRead, RowRefused, row-says, row-read-not-refused}
 
 -- the rows of the lots below i are read
 abbrev RowsRead : List ℕ → ℕ → Type 0
-RowsRead book i = (g : ℕ) → g < i → RowRead (rowAt book g) (bookCalls book)
+RowsRead book i = (g : ℕ) → g < i → RowRead (rowAt book g) (bookVersion book) (bookCalls book)
 
 -- a count of lots or calls, and one that is 0 or above 32
 abbrev Within32 : ℕ → Type 0
@@ -47,31 +53,31 @@ Outside n = (n ≡ 0) ⊎ (32 < n)
 
 -- the opening, n and m: 1 to 4 do not apply
 pub record Headed (book : List ℕ) : Type 0 where
-  pub opened : Opened bookMark book
+  pub opened : Opened bookMark 2 book
   pub lots-within : Within32 (bookLots book)
   pub calls-within : Within32 (bookCalls book)
 
 -- what a readable book says
 pub record BookRead (book : List ℕ) (n : Size) : Type 0 where
   pub sizes : n ≡ record { lots = bookLots book; calls = bookCalls book }
-  pub opened : Opened bookMark book
+  pub opened : Opened bookMark 2 book
   pub lots-within : (1 ≤ bookLots book) × (bookLots book ≤ 32)
   pub calls-within : (1 ≤ bookCalls book) × (bookCalls book ≤ 32)
-  pub row : (i : ℕ) → i < bookLots book → RowRead (rowAt book i) (bookCalls book)
+  pub row : (i : ℕ) → i < bookLots book → RowRead (rowAt book i) (bookVersion book) (bookCalls book)
   pub ends : length (rowAt book (bookLots book)) ≡ 0
 
 -- 1 to 8 of a book: 4 says that n or m is 0 or above 32, a row's refusal that the lots before it are fine, and 8 that all are
 pub data BookRefused (book : List ℕ) : ℕ → List ℕ → Type 0 where
-  book-opening : {k : ℕ} {vs : List ℕ} → OpeningRefused bookMark book k vs → BookRefused book k vs
-  count-outside : Opened bookMark book → Outside (bookLots book) ⊎ Outside (bookCalls book) → BookRefused book 4 []
+  book-opening : {k : ℕ} {vs : List ℕ} → OpeningRefused bookMark 2 book k vs → BookRefused book k vs
+  count-outside : Opened bookMark 2 book → Outside (bookLots book) ⊎ Outside (bookCalls book) → BookRefused book 4 []
   book-row : {i k : ℕ} {vs : List ℕ} → Headed book → i < bookLots book → RowsRead book i
-      → RowRefused (rowAt book i) i (bookCalls book) k vs → BookRefused book k vs
+      → RowRefused (rowAt book i) (bookVersion book) i (bookCalls book) k vs → BookRefused book k vs
   book-bytes-after : Headed book → RowsRead book (bookLots book) → 0 < length (rowAt book (bookLots book)) → BookRefused book 8 []
 
 module _ (book : List ℕ) (headed : Headed book) where
   rows-say : (left lot : ℕ) → lot + left ≡ bookLots book → RowsRead book lot
       → Says (λ _. RowsRead book (bookLots book) × (length (rowAt book (bookLots book)) ≡ 0)) (BookRefused book)
-      (readRows (rowAt book lot) lot left (bookCalls book))
+      (readRows (rowAt book lot) (bookVersion book) lot left (bookCalls book))
   unfolding readRows rowAt
   rows-say zero lot e before =
       let last : lot ≡ bookLots book = omega arith in
@@ -79,7 +85,8 @@ module _ (book : List ℕ) (headed : Headed book) where
       (λ t. book-bytes-after headed (subst (RowsRead book) last before) (rw (← last) (ltb→lt _ _ t)))
       (λ ends. (subst (RowsRead book) last before, rw (← last) (omega (arith, nltb→le))))
   rows-say (suc left) lot e before =
-      says-then _ (row-says (rowAt book lot) lot (bookCalls book)) (λ k vs. book-row headed (omega arith) before) (λ _ row.
+      says-then _ (row-says (rowAt book lot) (bookVersion book) lot (bookCalls book))
+      (λ k vs. book-row headed (omega arith) before) (λ _ row.
       rows-say left (suc lot) (omega arith)
       (λ g h. ⊎-elim (λ (same : g ≡ lot). rw same row) (before g) (below-suc h)))
 
@@ -97,7 +104,7 @@ unfolding readBook rowAt
 book-says book =
     let no-lots : Bool = countOutside (bookLots book) in
     let no-calls : Bool = countOutside (bookCalls book) in
-    says-then _ (opening-says bookMark book) (λ k vs. book-opening) (λ _ opened.
+    says-then _ (opening-says bookMark 2 book) (λ k vs. book-opening) (λ _ opened.
     says-unless (no-lots || no-calls) 4 _ _
     (λ t. count-outside opened (⊎-elim (λ n. inl (outside-says _ n)) (λ m. inr (outside-says _ m)) (or-says no-lots no-calls t))) (λ within.
     let (lots, calls) = neither-of-or no-lots no-calls within in
@@ -183,12 +190,34 @@ module _ {book : List ℕ} {n : Size} (read : BookRead book n) where
   pub pair-within : (i j : ℕ) → Eligible (problemOf book) i j → (i < 32) × (j < 32)
   pair-within i j (hi, hj, t) = omega (arith, problem-within)
 
-  -- the cost of an eligible pair is within the limit
-  pub cost-within : (i j : ℕ) → Eligible (problemOf book) i j → problemOf book .cost i j ≤ costLimit
+  -- the cost of an eligible pair is within the range of the version
+  pub cost-allowed : (i j : ℕ) → Eligible (problemOf book) i j → costOutside (bookVersion book) (rowCost (rowAt book i) j) ≡ false
   unfolding problemOf
-  cost-within i j (hi, hj, t) =
+  cost-allowed i j (hi, hj, t) =
       let (_, rest) = and-says (ltb i (bookLots book)) (ltb j (bookCalls book) && bit (rowWord (rowAt book i)) j) t in
       read .row i hi .costs-within j hj (and-says (ltb j (bookCalls book)) (bit (rowWord (rowAt book i)) j) rest .1)
+
+  pub cost-within : (i j : ℕ) → Eligible (problemOf book) i j → Allows (bookVersion book) (costsOf book i j)
+  unfolding costsOf
+  cost-within i j e = cost-range (bookVersion book) (rowCost (rowAt book i) j) (cost-allowed i j e)
+
+  -- with the base added it is the cost that the problem has, at most 1,000,000 more than the base
+  pub book-lifts : Lifts (costBase (bookVersion book)) (problemOf book) (costsOf book)
+  unfolding problemOf costsOf
+  book-lifts = record { lifted = λ i j e. cost-lifted (bookVersion book) (rowCost (rowAt book i) j) (cost-allowed i j e) .lifted }
+
+  pub lifted-within : (i j : ℕ) → Eligible (problemOf book) i j → problemOf book .cost i j ≤ costLimit + costBase (bookVersion book)
+  unfolding problemOf
+  lifted-within i j e = cost-lifted (bookVersion book) (rowCost (rowAt book i) j) (cost-allowed i j e) .within
+
+-- the Monge sequences and the good orders of a readable book by its signed costs are those of its problem
+pub book-monge : (book : List ℕ) → Readable book → (S : List Pair)
+    → SignedMonge (problemOf book) (costsOf book) S ↔ Monge (problemOf book) S
+book-monge book (n, e) S = signed-monge (book-lifts (book-read book n e)) S
+
+pub book-good : (book : List ℕ) → Readable book → (limit : ℕ) (S : List Pair)
+    → SignedGood limit (problemOf book) (costsOf book) S ↔ Good limit (problemOf book) S
+book-good book (n, e) limit S = signed-good (book-lifts (book-read book n e)) limit S
 
 -- the limits of a readable book
 pub book-limits : (book : List ℕ) (n : Size) → readBook book ≡ gives n → BookLimits book n

@@ -33,7 +33,7 @@ use Rattle.specification.proofs.Replies.{
   test-of-twice-not,
 }
 use Rattle.specification.proofs.Rows.{OpeningRefused, opening-says}
-use Rattle.specification.proofs.Books.{BookRefused, book-says, admitted-inside}
+use Rattle.specification.proofs.Books.{BookRefused, book-says, book-monge, admitted-inside}
 use Rattle.specification.proofs.Lines.{opening-in-table, book-in-table}
 use Rattle.specification.proofs.Holding.{
   NotEligibleAt,
@@ -63,7 +63,7 @@ use Rattle.specification.proofs.Crossing.{
 -- refused for the book, or for the order file's opening or length
 pub data FilesRefused (book order : List ℕ) : ℕ → List ℕ → Type 0 where
   of-book : {k : ℕ} {vs : List ℕ} → BookRefused book k vs → readBook book ≡ refuses k vs → FilesRefused book order k vs
-  of-opening : {k : ℕ} {vs : List ℕ} → OpeningRefused orderMark order k vs → readOpening orderMark order ≡ refuses k vs
+  of-opening : {k : ℕ} {vs : List ℕ} → OpeningRefused orderMark 1 order k vs → readOpening orderMark 1 order ≡ refuses k vs
       → FilesRefused book order k vs
   ends-early : length order < 7 + 2 * orderCount order → FilesRefused book order 6 []
   bytes-after : 7 + 2 * orderCount order < length order → FilesRefused book order 8 []
@@ -83,7 +83,7 @@ module _ (book order : List ℕ) where
       let S : List Pair = orderPairs order in
       let inside = admitted-inside book in
       says-then _ (says-known (book-says book)) (λ k vs (q, e). of-files (of-book q e)) (λ n (read, reads).
-      says-then _ (says-known (opening-says orderMark order)) (λ k vs (q, e). of-files (of-opening q e)) (λ _ (opened, opens).
+      says-then _ (says-known (opening-says orderMark 1 order)) (λ k vs (q, e). of-files (of-opening q e)) (λ _ (opened, opens).
       says-unless (ltb (length order) (7 + 2 * orderCount order)) 6 _ _ (λ t. of-files (ends-early (ltb→lt _ _ t))) (λ long.
       says-unless (ltb (7 + 2 * orderCount order) (length order)) 8 _ _ (λ t. of-files (bytes-after (ltb→lt _ _ t))) (λ short.
       says-then _ (holding-says P inside S) (λ k vs. of-holding) (λ _ lists.
@@ -96,7 +96,7 @@ module _ (book order : List ℕ) where
           readable = (n, reads);
           shaped = record { opening = opens; whole = omega (arith, nltb→le) };
           each-once = each-once;
-          monge = monge-exactly each-once .0 hold;
+          monge = book-monge book (n, reads) (orderPairs order) .1 (monge-exactly each-once .0 hold);
         },
       ))))))))
 
@@ -109,7 +109,8 @@ module _ (book order : List ℕ) where
   passing-not-refused passing k vs (of-holding q) = lists-never-refused (lists-of-order (passing .each-once)) k vs q
   passing-not-refused passing k vs (of-missing lists m) = order-misses-nothing (problemOf book) (orderPairs order) (passing .each-once) m
   passing-not-refused passing k vs (of-crossing each-once q) =
-      hold-never-crossed (monge-exactly (passing .each-once) .1 (passing .monge)) k vs q
+      let monge = book-monge book (passing .readable) (orderPairs order) .0 (passing .monge) in
+      hold-never-crossed (monge-exactly (passing .each-once) .1 monge) k vs q
 
   -- the check passes exactly these
   pub check-passes : Passing book order → checkOrder book order ≡ gives (orderCount order)

@@ -1,21 +1,20 @@
 -- Laws of costs by version: a cost that is not outside its version's range is the lifted cost less the base, and the test for 7 is one of
 -- the lifted cost alone. Then the ends of the range, computed.
-use mathlib.Core.Path.{_≡_, refl, sym, _∙_, ap}
-use mathlib.Core.Logic.{by-cases}
+use mathlib.Core.Path.{_≡_, refl, _∙_, ap}
+use mathlib.Core.Logic.{by-cases, ⊎-elim}
 use mathlib.Core.Bool.{Bool, true, false, cond, _||_, or-false, true≢false}
 use Prim.Native.Nat.{ℕ, suc, _+_, _-_, _≤_, _<_}
 use native.Mathlib.Decide.{decLt}
 use native.Mathlib.Omega.{arith}
 use borrow.Author.Tests.{lt-ltb, le-ltb, ltb-false}
-use lib.Dec.{ltb, eqb, ltb→lt, lt→ltb}
-use lib.IntN.{ℤ, pos, negsuc, negℤ, _+ℤ_, _-ℤ_, +ℤ-negℤ-cancel}
-use lib.Signed.{ltZ, _≤ℤ_, ltZ-no}
+use lib.Dec.{T, ltb, eqb, ltb→lt, lt→ltb}
+use lib.IntN.{ℤ, pos, negsuc, negℤ, _+ℤ_}
+use lib.Signed.{ltZ, ltZ-yes, ltZ-no, clashℤ}
 use mir.Syntax.{w32}
 use mir.Val.{toZ}
-use Rattle.transport.proofs.Laws.Tests.{T-ext}
+use Rattle.transport.proofs.Laws.Tests.{T-ext, or-says}
 use Rattle.transport.proofs.Laws.Integers.{added-of}
-use Rattle.specification.specs.Book.{costLimit}
-use Rattle.specification.specs.Costs.{twosComplement, heldCost, costBase, costOutside, liftedCost}
+use Rattle.specification.specs.Costs.{costLimit, twosComplement, heldCost, costBase, costOutside, Allows, liftedCost}
 
 -- the three parts that two's complement has of the natural numbers; the last has no 32-bit number in it
 module _ (raw : ℕ) (X : ℤ → Type 0) (low : raw < 2147483648 → X (pos raw))
@@ -76,19 +75,17 @@ cost-lifted version raw = by-version (eqb version 2)
     by-version false = unsigned-lifted raw
 
 -- the range, as an order
-pub cost-range : (version raw : ℕ) → costOutside version raw ≡ false
-    → (negℤ (pos (costBase version)) ≤ℤ heldCost version raw) × (heldCost version raw ≤ℤ pos costLimit)
+pub cost-range : (version raw : ℕ) → costOutside version raw ≡ false → Allows version (heldCost version raw)
 cost-range version raw e =
     let z : ℤ = heldCost version raw in
     let (low, high) = or-says-no (ltZ z (negℤ (pos (costBase version)))) (ltZ (pos costLimit) z) e in
     (ltZ-no (rw low tt), ltZ-no (rw high tt))
 
--- so it is the lifted cost less the base
-pub cost-held : (version raw : ℕ) → costOutside version raw ≡ false
-    → heldCost version raw ≡ pos (liftedCost (costBase version) raw) -ℤ pos (costBase version)
-cost-held version raw e =
-    sym (+ℤ-negℤ-cancel (heldCost version raw) (pos (costBase version)))
-    ∙ ap (λ z. z -ℤ pos (costBase version)) (cost-lifted version raw e .lifted)
+pub range-not-outside : (version raw : ℕ) → Allows version (heldCost version raw) → costOutside version raw ≡ true → ⊥
+range-not-outside version raw (low, high) e =
+    let z : ℤ = heldCost version raw in
+    ⊎-elim (λ (t : T (ltZ z (negℤ (pos (costBase version))))). clashℤ (ltZ-yes t) low) (λ t. clashℤ (ltZ-yes t) high)
+    (or-says (ltZ z (negℤ (pos (costBase version)))) (ltZ (pos costLimit) z) (rw e tt))
 
 -- of 32-bit numbers the test is one of the lifted cost
 ltb-same : (a b c d : ℕ) → (a < b → c < d) → (c < d → a < b) → ltb a b ≡ ltb c d

@@ -10,13 +10,15 @@ use lib.Dec.{ltb, ltb→lt, lit≤}
 use lib.ListN.{length}
 use Rattle.transport.specs.Problem.{Problem}
 use Rattle.transport.specs.Greedy.{Pair}
+use Rattle.transport.specs.Signed.{Lifts}
 use Rattle.transport.specs.Finder.{find, size}
 use Rattle.transport.proofs.Laws.Tests.{T-false}
 use Rattle.transport.proofs.Orders.Length.{order-length}
 use Rattle.transport.proofs.Greedy.Converse.{monge-of-good}
 use Rattle.transport.proofs.Finder.Find.{find-is-order}
 use Rattle.specification.specs.Reply.{Reply, gives, refuses, Outcome}
-use Rattle.specification.specs.Book.{problemOf, lotCosts}
+use Rattle.specification.specs.Costs.{costBase}
+use Rattle.specification.specs.Book.{bookVersion, problemOf, costsOf, lotCosts}
 use Rattle.specification.specs.OrderFile.{orderCount, orderPairs, orderFile}
 use Rattle.specification.specs.Check.{checkOrder}
 use Rattle.specification.specs.Run.{runFlow}
@@ -36,9 +38,9 @@ use Rattle.specification.proofs.Replies.{
   gives-if-never-refused,
   refused-if-never-given,
 }
-use Rattle.specification.proofs.Books.{book-says, book-reads, book-limits}
+use Rattle.specification.proofs.Books.{book-says, book-read, book-reads, book-lifts, book-monge, book-good, book-limits}
 use Rattle.specification.proofs.AmountsFiles.{amounts-say, amounts-read, amounts-within}
-use Rattle.specification.proofs.LotCosts.{lot-costs-length, lot-cost-at}
+use Rattle.specification.proofs.LotCosts.{lot-costs-length, lot-cost-held}
 use Rattle.specification.proofs.PairCosts.{pair-cost-says, pair-costs, pair-not-eligible, pair-outside}
 use Rattle.specification.proofs.Lines.{book-in-table, amounts-in-table}
 use Rattle.specification.proofs.Checks.{check-says, check-in-table, check-passes, check-passes-only}
@@ -106,7 +108,7 @@ module _ (book buffer : List ℕ) (n : ℕ) (e : findOrder book buffer ≡ gives
 pub demand2 : Demand2
 demand2 = record {
   book-limits = book-limits;
-  lot-costs = λ book n e i j (inside, _, admitted). lot-cost-at book n e i inside j admitted;
+  lot-costs = λ book n e i j (inside, _, admitted). lot-cost-held book n e i inside j admitted;
   lot-costs-length = lot-costs-length;
   pair-costs = pair-costs;
   pair-not-eligible = pair-not-eligible;
@@ -137,25 +139,29 @@ module _ (book buffer : List ℕ) (readable : Readable book) (long : orderLength
   found-or-13 : (findOrder book buffer ≡ gives (orderLength book)) ⊎ (findOrder book buffer ≡ refuses 13 [])
   found-or-13 = by-reply (find-says book buffer) (λ n gave e. inl (e ∙ ap gives (gave .0))) (λ k vs q e. inr (e ∙ only-13 q .0))
 
-  found-if-good : (S : List Pair) → GoodOrder (problemOf book) S → findOrder book buffer ≡ gives (orderLength book)
+  lifts : Lifts (costBase (bookVersion book)) (problemOf book) (costsOf book)
+  lifts = book-lifts (book-read book _ (readable .1))
+
+  found-if-good : (S : List Pair) → GoodOrder (problemOf book) (costsOf book) S → findOrder book buffer ≡ gives (orderLength book)
   found-if-good S good =
-      let (n, gave, e) = gives-if-never-refused (find-says book buffer) (λ k vs q. none-is-good (problemOf book) (only-13 q .1) S good) in
+      let (n, gave, e) = gives-if-never-refused (find-says book buffer) (λ k vs q. none-is-good lifts (only-13 q .1) S good) in
       e ∙ ap gives (gave .0)
 
-  refused-if-none-good : ((S : List Pair) → GoodOrder (problemOf book) S → ⊥) → findOrder book buffer ≡ refuses 13 []
+  refused-if-none-good : ((S : List Pair) → GoodOrder (problemOf book) (costsOf book) S → ⊥) → findOrder book buffer ≡ refuses 13 []
   refused-if-none-good never =
       let (k, vs, q, e) = refused-if-never-given (find-says book buffer)
-      (λ n (_, S, gave, _). never S (found-is-good (problemOf book) S (gave .found))) in
+      (λ n (_, S, gave, _). never S (found-is-good lifts S (gave .found))) in
       e ∙ only-13 q .0
 
 -- a file that holds a good order passes
-good-passes : (book order : List ℕ) → Readable book → OrderShaped order → GoodOrder (problemOf book) (orderPairs order)
+good-passes : (book order : List ℕ) → Readable book → OrderShaped order → GoodOrder (problemOf book) (costsOf book) (orderPairs order)
     → checkOrder book order ≡ gives (orderCount order)
 good-passes book order readable shaped (each-once, good) = check-passes book order (record {
   readable = readable;
   shaped = shaped;
   each-once = each-once;
-  monge = monge-of-good _ (problemOf book) (orderPairs order) each-once good (lit≤ tt);
+  monge = book-monge book readable _ .1
+      (monge-of-good _ (problemOf book) (orderPairs order) each-once (book-good book readable _ _ .0 good) (lit≤ tt));
 })
 
 -- find and run is the run by a file that passes

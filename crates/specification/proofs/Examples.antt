@@ -1,4 +1,4 @@
--- The demands' hypotheses are met, by the books and amounts of F1, F8, F9 and F10, and those of requests 2 and 3 by computed cases: they speak
+-- The demands' hypotheses are met, by the books and amounts of F1, F8, F9 and F10, and those of requests 2 to 4 by computed cases: they speak
 -- of something.
 use mathlib.Core.Path.{_≡_, refl, sym, _∙_}
 use mathlib.Core.Logic.{inr, ⊎-elim}
@@ -6,22 +6,26 @@ use mathlib.Core.List.{List, [], _∷_}
 use Prim.Native.Nat.{ℕ, _≤_}
 use native.Mathlib.Omega.{arith}
 use lib.Count.{ones, onesIn}
+use lib.IntN.{pos, negsuc}
+use lib.Signed.{_≤ℤ_}
 use lib.ListN.{length, replicate}
-use Rattle.transport.specs.Problem.{sum, Meets, MeetsCalls}
+use Rattle.transport.specs.Problem.{sum, Eligible, Meets, MeetsCalls}
 use Rattle.transport.specs.Greedy.{Pair}
+use Rattle.transport.specs.Signed.{signedCost}
 use Rattle.transport.specs.Finder.{every}
 use Rattle.specification.specs.Reply.{gives, full, covered, Outcome}
 use Rattle.specification.specs.Bytes.{u16At, u32At, readOpening}
-use Rattle.specification.specs.Book.{readCosts, readRow, readRows, readBook, rowAt, problemOf}
+use Rattle.specification.specs.Book.{readCosts, readRow, readRows, bookVersion, readBook, rowAt, problemOf, costsOf}
 use Rattle.specification.specs.Amounts.{lotAmount, callAmount, readAmountsOf, readAmounts}
 use Rattle.specification.specs.OrderFile.{orderPairs}
 use Rattle.specification.specs.Run.{runOrder}
 use Rattle.specification.specs.Find.{orderLength, findOrder}
 use Rattle.specification.specs.Demands.{Readable, Passing, GoodOrder, returned}
-use Rattle.specification.specs.Idle.{enlarged}
+use Rattle.specification.specs.Idle.{enlarged, enlargedCosts}
 use Rattle.specification.specs.Requests.{SomeMeetsCalls, Allowed, IdleRun, ThreeEligible}
 use Rattle.specification.specs.Examples.{amounts, book1235, amounts5436, bookGap, bookEmpty, bookDiagonal, known-examples}
 use Rattle.specification.proofs.AllCases.{bookCorners, bookSpare, amountsSpare, idle-cases, bookSteps}
+use Rattle.specification.proofs.RebateCases.{bookRebates, bookRebate, amountsRebate, rebate-cases}
 use Rattle.specification.proofs.Replies.{not-both}
 use Rattle.specification.proofs.Books.{admitted-inside}
 use Rattle.specification.proofs.Verdicts.{short-not-full, short-not-covered}
@@ -40,7 +44,7 @@ abbrev order : List ℕ
 order = returned book1235 orderBuffer
 
 abbrev outcome : Outcome
-outcome = record { verdict = full; units = 9; cost = 24 }
+outcome = record { verdict = full; units = 9; cost = pos 24 }
 
 -- the amounts of F8 and of F10
 abbrev amounts8 : List ℕ
@@ -49,14 +53,14 @@ amounts8 = amounts 2 2 (2 ∷ 0 ∷ 1 ∷ 0 ∷ [])
 abbrev amounts10 : List ℕ
 amounts10 = amounts 1 1 (1 ∷ 1 ∷ [])
 
--- what demands 2 and 3 and requests 2 and 3 assume, each met
+-- what demands 2 and 3 and requests 2 to 4 assume, each met
 pub record NotVacuous : Type 0 where
   -- a readable book, a buffer long enough, and an order returned
   pub readable : Readable book1235
   pub long-enough : orderLength book1235 ≤ length orderBuffer
   pub found : findOrder book1235 orderBuffer ≡ gives (orderLength book1235)
   -- a good order and a passing one
-  pub some-good : (S : List Pair) × GoodOrder (problemOf book1235) S
+  pub some-good : (S : List Pair) × GoodOrder (problemOf book1235) (costsOf book1235) S
   pub some-passing : (S : List ℕ) × Passing book1235 S
   -- amounts that are read, a run that is accepted, and an allocation that meets everything
   pub amounts-read : readAmounts book1235 amounts5436 ≡ gives (record { lots = 2; calls = 2 })
@@ -66,18 +70,29 @@ pub record NotVacuous : Type 0 where
   pub some-meets-calls : (x : ℕ → ℕ → ℕ) × MeetsCalls (problemOf bookGap) (lotAmount amounts8) (callAmount bookGap amounts8) x
   pub none-meets-calls : (x : ℕ → ℕ → ℕ) → MeetsCalls (problemOf bookEmpty) (lotAmount amounts10) (callAmount bookEmpty amounts10) x → ⊥
   -- a readable book with no good order
-  pub none-good : Readable bookDiagonal × ((S : List Pair) → GoodOrder (problemOf bookDiagonal) S → ⊥)
+  pub none-good : Readable bookDiagonal × ((S : List Pair) → GoodOrder (problemOf bookDiagonal) (costsOf bookDiagonal) S → ⊥)
   -- with an idle call a run that is accepted, and an allocation that meets its calls
-  pub idle-run : IdleRun bookSpare amountsSpare (replicate 5 8) (record { verdict = covered; units = 5; cost = 9 })
+  pub idle-run : IdleRun bookSpare amountsSpare (replicate 5 8) (record { verdict = covered; units = 5; cost = pos 9 })
   pub idle-meets : SomeMeetsCalls bookSpare amountsSpare
   -- and a book with an order, whose enlarged book has none that is good, where no other refusal applies
   pub idle-none-good : Allowed bookCorners (amounts 3 2 (replicate 5 0)) (replicate 6 8)
-      × ((S : List Pair) → GoodOrder (enlarged bookCorners) S → ⊥)
+      × ((S : List Pair) → GoodOrder (enlarged bookCorners) (enlargedCosts bookCorners) S → ⊥)
   -- three eligible pairs of a readable book, for each answer of the test of a quadruple (`quadruple-cases`), and with k = i and l = j
   pub quadruple-holds : ThreeEligible bookSteps 0 1 1 3
   pub quadruple-too-high : ThreeEligible bookSteps 0 3 1 1
   pub quadruple-not-eligible : ThreeEligible bookGap 0 0 1 1
   pub quadruple-own : ThreeEligible bookGap 0 0 0 0
+  -- a readable book of each version, with an eligible pair
+  pub version-1 : (bookVersion bookSteps ≡ 1) × Eligible (problemOf bookSteps) 0 1
+  pub version-2 : Readable bookRebates × (bookVersion bookRebates ≡ 2) × Eligible (problemOf bookRebates) 0 1
+  -- a least cost below zero: some allocation meets everything, and none that does costs less than -14
+  pub least-below-zero : ((x : ℕ → ℕ → ℕ) × Meets (problemOf bookRebates) (lotAmount amounts5436) (callAmount bookRebates amounts5436) x)
+      × ((x : ℕ → ℕ → ℕ) → Meets (problemOf bookRebates) (lotAmount amounts5436) (callAmount bookRebates amounts5436) x
+      → negsuc 13 ≤ℤ signedCost (problemOf bookRebates) (costsOf bookRebates) x)
+  -- and one with an idle call: some allocation meets every call, and none that does costs less than -6
+  pub idle-below-zero : SomeMeetsCalls bookRebate amountsRebate
+      × ((x : ℕ → ℕ → ℕ) → MeetsCalls (problemOf bookRebate) (lotAmount amountsRebate) (callAmount bookRebate amountsRebate) x
+      → negsuc 5 ≤ℤ signedCost (problemOf bookRebate) (costsOf bookRebate) x)
 
 length-1235 : orderLength book1235 ≡ 15
 unfolding problemOf rowAt u16At u32At sum ones
@@ -131,6 +146,18 @@ three-gap = record {
   by-call = admitted-inside bookGap _ _ tt;
 }
 
+reads-rebates : readBook bookRebates ≡ gives (record { lots = 2; calls = 2 })
+unfolding u16At u32At readOpening readCosts readRow readRows readBook ones onesIn
+reads-rebates = refl
+
+of-version-1 : bookVersion bookSteps ≡ 1
+unfolding u16At
+of-version-1 = refl
+
+of-version-2 : (bookVersion bookRebates ≡ 2) × Eligible (problemOf bookRebates) 0 1
+unfolding problemOf rowAt u16At u32At ones
+of-version-2 = (refl, admitted-inside bookRebates _ _ tt)
+
 reads-amounts : readAmounts book1235 amounts5436 ≡ gives (record { lots = 2; calls = 2 })
 unfolding readAmounts readAmountsOf u16At u32At readOpening every
 reads-amounts = rw reads-1235 refl
@@ -156,6 +183,8 @@ not-vacuous =
     let long : orderLength bookDiagonal ≤ 19 = omega (arith, length-diagonal) in
     let (_, by) = demand3 .by-returned book1235 orderBuffer 15 found in
     let idle = request2 .runs bookSpare amountsSpare (replicate 5 8) _ (idle-cases .spare) in
+    let rebates = demand3 .find-and-run bookRebates amounts5436 (replicate 4 9) _ (rebate-cases .rebates) in
+    let idle-rebate = request2 .runs bookRebate amountsRebate (8 ∷ 8 ∷ []) _ (rebate-cases .idle-rebate) in
     record {
       readable = (_, reads-1235);
       long-enough = omega (arith, length-1235);
@@ -183,4 +212,8 @@ not-vacuous =
       quadruple-too-high = three-3-1;
       quadruple-not-eligible = three-gap;
       quadruple-own = let own = three-gap .own in record { readable = three-gap .readable; own = own; by-lot = own; by-call = own };
+      version-1 = (of-version-1, three-1-3 .own);
+      version-2 = ((_, reads-rebates), of-version-2 .0, of-version-2 .1);
+      least-below-zero = (rebates .verdicts .full-iff .0 refl, rebates .least-cost);
+      idle-below-zero = (idle-rebate .covered-by-totals .0 refl .1, idle-rebate .least-cost);
     }

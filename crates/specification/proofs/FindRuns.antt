@@ -12,7 +12,7 @@ use Rattle.transport.specs.Greedy.{Pair}
 use Rattle.transport.specs.Finder.{find}
 use Rattle.specification.specs.declared.Refusal.the-variants as refusal
 use Rattle.specification.specs.Reply.{Reply, gives, refuses, _>>=_, refuseIf, afterwards, Size}
-use Rattle.specification.specs.Book.{readBook, problemOf}
+use Rattle.specification.specs.Book.{readBook, problemOf, costsOf}
 use Rattle.specification.specs.Amounts.{readAmounts}
 use Rattle.specification.specs.OrderFile.{orderCount, orderPairs, orderFile}
 use Rattle.specification.specs.Check.{checkOrder}
@@ -60,7 +60,7 @@ length-findAndRunFlow book amounts flow = says-afterwards flow _ (λ s. length s
 
 pub find-and-run-says : (book amounts flow : List ℕ)
     → Says (λ o. (S : List Pair) × (find (problemOf book) ≡ some S) × Readable book
-    × (o ≡ outcome (problemOf book) (greedyOn book S amounts)))
+    × (o ≡ outcome (problemOf book) (costsOf book) (greedyOn book S amounts)))
     (FindRunRefused book amounts flow) (findAndRun book amounts flow)
 unfolding findAndRun
 find-and-run-says book amounts flow = says-then _ (found-to-run-says book amounts flow) (λ k vs q. q)

@@ -7,13 +7,16 @@ use Prim.Native.Nat.{ℕ, _≤_, _<_}
 use native.Mathlib.Omega.{arith}
 use lib.Dec.{ltb, ltb→lt, nltb→le, lit≤}
 use lib.ListN.{length, take, drop, length-append, length-drop}
+use lib.IntN.{ℤ}
 use Rattle.transport.specs.Problem.{Problem}
 use Rattle.transport.specs.Greedy.{Pair}
+use Rattle.transport.specs.Signed.{Lifts}
 use Rattle.transport.specs.Finder.{find, size}
 use Rattle.transport.proofs.Orders.Lists.{lists-of-order}
 use Rattle.transport.proofs.Orders.Length.{order-length}
 use Rattle.transport.proofs.Greedy.Optimal.{good-of-monge}
 use Rattle.transport.proofs.Greedy.Converse.{monge-of-good}
+use Rattle.transport.proofs.Greedy.Signed.{signed-good}
 use Rattle.transport.proofs.Finder.Find.{find-is-order, find-is-monge, find-none}
 use Rattle.specification.specs.declared.Refusal.the-variants as refusal
 use Rattle.specification.specs.Reply.{gives, refuses}
@@ -32,7 +35,7 @@ use Rattle.specification.proofs.Replies.{
   says-unless,
   says-afterwards,
 }
-use Rattle.specification.proofs.Books.{BookRefused, book-says, book-read, size-within, pair-within}
+use Rattle.specification.proofs.Books.{book-monge, BookRefused, book-says, book-read, size-within, pair-within}
 use Rattle.specification.proofs.Lines.{book-in-table}
 use Rattle.specification.proofs.OrderFiles.{
   order-back,
@@ -43,13 +46,15 @@ use Rattle.specification.proofs.OrderFiles.{
   order-file-bytes,
 }
 
--- what is found is a good order, and where nothing is found there is none
-module _ (P : Problem) where
-  pub found-is-good : (S : List Pair) → find P ≡ some S → GoodOrder P S
-  found-is-good S found = let order = find-is-order P S found in (order, good-of-monge order (find-is-monge P S found) _)
+-- what is found is a good order, and where nothing is found there is none, by costs of which the problem's are lifted
+module _ {base : ℕ} {P : Problem} {c : ℕ → ℕ → ℤ} (lifts : Lifts base P c) where
+  pub found-is-good : (S : List Pair) → find P ≡ some S → GoodOrder P c S
+  found-is-good S found =
+      let order = find-is-order P S found in
+      (order, signed-good lifts _ S .1 (good-of-monge order (find-is-monge P S found) _))
 
-  pub none-is-good : find P ≡ none → (S : List Pair) → GoodOrder P S → ⊥
-  none-is-good found S (order, good) = find-none P found S order (monge-of-good _ P S order good (lit≤ tt))
+  pub none-is-good : find P ≡ none → (S : List Pair) → GoodOrder P c S → ⊥
+  none-is-good found S (order, good) = find-none P found S order (monge-of-good _ P S order (signed-good lifts _ S .0 good) (lit≤ tt))
 
 -- the finder's answer, or 13
 pub or-13-says : (P : Problem) {Q : ℕ → List ℕ → Type 0} → (find P ≡ none → Q 13 []) → Says (λ S. find P ≡ some S) Q (orderOr13 P)
@@ -92,7 +97,7 @@ found-passes book S readable found = record {
   readable = readable;
   shaped = order-file-shaped S;
   each-once = rw (order-back S) (find-is-order (problemOf book) S found);
-  monge = rw (order-back S) (find-is-monge (problemOf book) S found);
+  monge = rw (order-back S) (book-monge book readable S .1 (find-is-monge (problemOf book) S found));
 }
 
 -- the order buffer keeps its length

@@ -13,17 +13,20 @@ use borrow.Author.Tests.{lt-ltb, le-ltb, ne-eqb}
 use Rattle.transport.specs.Problem.{Problem}
 use Rattle.transport.specs.Greedy.{Pair}
 use Rattle.transport.specs.Order.{OrderOf, Monge}
+use Rattle.transport.specs.Signed.{Lifts}
 use Rattle.transport.specs.Finder.{find}
 use Rattle.transport.proofs.Greedy.Calls.{meets-calls-of-meets, totals-of-meets, meets-of-totals}
 use Rattle.transport.proofs.Greedy.Idle.{idle-kept}
+use Rattle.transport.proofs.Greedy.Signed.{idle-lifts, signed-idle-least}
 use Rattle.transport.proofs.Finder.Find.{find-is-order, find-is-monge}
-use Rattle.transport.proofs.Theorems.Idle.{idle-cheapest, idle-most, idle-covers-iff, idle-spends-iff}
+use Rattle.transport.proofs.Theorems.Idle.{idle-most, idle-covers-iff, idle-spends-iff}
 use Rattle.specification.specs.declared.Refusal.the-variants as refusal
 use Rattle.specification.specs.Reply.{Reply, gives, refuses, Size, Outcome, full, covered}
-use Rattle.specification.specs.Book.{bookCalls, problemOf}
+use Rattle.specification.specs.Costs.{costBase}
+use Rattle.specification.specs.Book.{bookVersion, bookCalls, problemOf, costsOf}
 use Rattle.specification.specs.Amounts.{readAmounts, lotAmount, callAmount}
 use Rattle.specification.specs.Run.{outcome, flowTooShort}
-use Rattle.specification.specs.Idle.{enlarged, lotsTotal, callsTotal, greedyIdleOn}
+use Rattle.specification.specs.Idle.{enlarged, enlargedCosts, lotsTotal, callsTotal, greedyIdleOn}
 use Rattle.specification.specs.Idle.{foundToRunIdle, findAndRunIdle, findAndRunIdleFlow}
 use Rattle.specification.specs.Demands.{InTable, Verdicts, GoodOrder}
 use Rattle.specification.specs.Requests.{SomeMeetsCalls, Allowed, IdleRun, Request2}
@@ -40,6 +43,7 @@ use Rattle.specification.proofs.Replies.{
   says-unless,
   says-afterwards,
 }
+use Rattle.specification.proofs.Books.{book-lifts}
 use Rattle.specification.proofs.AmountsFiles.{AmountsOrBookRefused, amounts-say, amounts-read}
 use Rattle.specification.proofs.Lines.{amounts-in-table}
 use Rattle.specification.proofs.Verdicts.{verdicts-of}
@@ -94,6 +98,10 @@ module _ (book amounts flow : List ℕ) where
   unfolding problemOf
   long-enough allowed = rw (amounts-read book amounts (allowed .size) (allowed .reads) .0 .sizes) at (allowed .not-17)
 
+  -- the problem's costs are lifted
+  lifts-of : Allowed book amounts flow → Lifts (costBase (bookVersion book)) (problemOf book) (costsOf book)
+  lifts-of allowed = book-lifts (amounts-read book amounts (allowed .size) (allowed .reads) .0)
+
   -- the flow buffer keeps its length
   pub length-findAndRunIdleFlow : length (findAndRunIdleFlow book amounts flow) ≡ length flow
   unfolding findAndRunIdleFlow
@@ -101,7 +109,7 @@ module _ (book amounts flow : List ℕ) where
       (λ S gave. length-flowOf (problemOf book) _ flow (long-enough (gave .allowed)))
 
   pub idle-says : Says (λ o. (S : List Pair) × IdleGave book amounts flow S × (foundToRunIdle book amounts flow ≡ gives S)
-      × (o ≡ outcome (problemOf book) (greedyIdleOn book S amounts)))
+      × (o ≡ outcome (problemOf book) (costsOf book) (greedyIdleOn book S amounts)))
       (IdleRefused book amounts flow) (findAndRunIdle book amounts flow)
   unfolding findAndRunIdle
   idle-says = says-then _ (says-known found-idle-says) (λ k vs q. q .0) (λ S (gave, it). giving (S, gave, it, refl))
@@ -130,24 +138,26 @@ module _ (book amounts : List ℕ) (o : Outcome) (enough : callsTotal book amoun
 
 -- an accepted run, by the order found
 idle-run-by : (book amounts flow : List ℕ) (o : Outcome) (S : List Pair) → IdleGave book amounts flow S
-    → foundToRunIdle book amounts flow ≡ gives S → o ≡ outcome (problemOf book) (greedyIdleOn book S amounts) → IdleRun book amounts flow o
+    → foundToRunIdle book amounts flow ≡ gives S → o ≡ outcome (problemOf book) (costsOf book) (greedyIdleOn book S amounts)
+    → IdleRun book amounts flow o
 unfolding findAndRunIdleFlow
 idle-run-by book amounts flow o S gave it is =
     let P : Problem = problemOf book in
+    let base : ℕ = costBase (bookVersion book) in
     let (a, b) : (ℕ → ℕ) × (ℕ → ℕ) = (lotAmount amounts, callAmount book amounts) in
     let order : OrderOf (enlarged book) S = find-is-order (enlarged book) S (gave .found) in
     let monge : Monge (enlarged book) S = find-is-monge (enlarged book) S (gave .found) in
     let verdicts : Verdicts book amounts o =
-    rw is (verdicts-of book amounts _ (idle-spends-iff P order a b monge) (idle-covers-iff P order a b monge)) in
+    rw is (verdicts-of book amounts _ (idle-spends-iff base P order a b monge) (idle-covers-iff base P order a b monge)) in
     record {
       allowed = gave .allowed;
       ran = record {
         order = S;
         found = gave .found;
-        ran = rw (it, is) (ran-of P (idle-kept P order a b) flow (long-enough book amounts flow (gave .allowed)));
+        ran = rw (it, is) (ran-of P (costsOf book) (idle-kept base P order a b) flow (long-enough book amounts flow (gave .allowed)));
       };
-      least-cost = λ x m. rw is (idle-cheapest P order a b monge x m .2);
-      greatest-units = λ x h. rw is (idle-most P order a b monge (gave .allowed .not-18) x h);
+      least-cost = λ x m. rw is (signed-idle-least (lifts-of book amounts flow (gave .allowed)) order monge a b m .1);
+      greatest-units = λ x h. rw is (idle-most base P order a b monge (gave .allowed .not-18) x h);
       verdicts = verdicts;
       full-by-totals = by-equal-totals book amounts o (gave .allowed .not-18) verdicts;
       covered-by-totals = by-higher-total book amounts o (gave .allowed .not-18) verdicts;
@@ -167,15 +177,18 @@ module _ (book amounts flow : List ℕ) (allowed : Allowed book amounts flow) wh
   only-13 (flow-too-short reads _ _ short) = absurd (omega (arith, rw (same-size book amounts (allowed .reads) reads) at (allowed .not-17)))
   only-13 (no-order _ e) = (refl, e)
 
-  idle-found : (S : List Pair) → GoodOrder (enlarged book) S → (o : Outcome) × (findAndRunIdle book amounts flow ≡ gives o)
+  lifts : Lifts (costBase (bookVersion book)) (enlarged book) (enlargedCosts book)
+  lifts = idle-lifts (lifts-of book amounts flow allowed)
+
+  idle-found : (S : List Pair) → GoodOrder (enlarged book) (enlargedCosts book) S → (o : Outcome) × (findAndRunIdle book amounts flow ≡ gives o)
   idle-found S good =
-      let (o, _, e) = gives-if-never-refused (idle-says book amounts flow) (λ k vs q. none-is-good (enlarged book) (only-13 q .1) S good) in
+      let (o, _, e) = gives-if-never-refused (idle-says book amounts flow) (λ k vs q. none-is-good lifts (only-13 q .1) S good) in
       (o, e)
 
-  idle-refused : ((S : List Pair) → GoodOrder (enlarged book) S → ⊥) → findAndRunIdle book amounts flow ≡ refuses 13 []
+  idle-refused : ((S : List Pair) → GoodOrder (enlarged book) (enlargedCosts book) S → ⊥) → findAndRunIdle book amounts flow ≡ refuses 13 []
   idle-refused never =
       let (k, vs, q, e) = refused-if-never-given (idle-says book amounts flow)
-      (λ o (S, gave, _, _). never S (found-is-good (enlarged book) S (gave .found))) in
+      (λ o (S, gave, _, _). never S (found-is-good lifts S (gave .found))) in
       e ∙ only-13 q .0
 
 refused-by-17 : (book amounts flow : List ℕ) (n : Size) → readAmounts book amounts ≡ gives n

@@ -1,8 +1,10 @@
 -- What is proved of document 01's definitions: what each reply means, and the demands.
 pub mod AllCases  -- each number of the table on an input that shows it, computed
+pub mod RebateCases  -- costs below zero (request 4), computed
 pub mod Replies  -- what a reply means is read off its steps
 pub mod Numbers  -- little-endian numbers of a part of a file
 pub mod Bits  -- set bits of a word, and the book's test for 5
+pub mod Costs  -- costs by their version: the range, and the base
 pub mod Rows  -- what reading an opening, and one row, says
 pub mod Books  -- what reading a book says
 pub mod Starts  -- where a book holds a row and a cost
@@ -22,6 +24,7 @@ pub mod Finds  -- what finding an order says
 pub mod FindRuns  -- finding and running in one call is the run by the order found
 pub mod IdleRuns  -- what finding and running with an idle call says
 pub mod Bounds  -- units and cost fit 64 bits
+pub mod Rebates  -- what request 4 promises beside the demands
 pub mod Demands  -- the three demands, proved
 pub mod Examples  -- the demands speak of something: F1 and F9
 pub mod Stated  -- two answers that state the same are the same

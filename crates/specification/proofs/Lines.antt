@@ -6,23 +6,23 @@ use native.Mathlib.Omega.{arith}
 use Rattle.specification.specs.declared.Refusal.the-variants as refusal
 use Rattle.specification.specs.Reply.{Size}
 use Rattle.specification.proofs.Replies.{UpTo}
-use Rattle.specification.proofs.Rows.{OpeningRefused, under-seven, mark-differs, version-not-one}
+use Rattle.specification.proofs.Rows.{OpeningRefused, under-seven, mark-differs, other-version}
 use Rattle.specification.proofs.Rows.{RowRefused, word-cut, bit-outside, costs-cut, cost-too-high}
 use Rattle.specification.proofs.Books.{BookRefused, book-opening, count-outside, book-row, book-bytes-after}
 use Rattle.specification.proofs.AmountsFiles.{AmountsRefused, amounts-opening, counts-differ, amounts-end-early}
 use Rattle.specification.proofs.AmountsFiles.{amounts-bytes-after, amount-too-high, AmountsOrBookRefused, amounts-book, amounts-own}
 
 -- a book: with a number up to 8
-pub opening-in-table : {mark s : List ℕ} {k : ℕ} {vs : List ℕ} → OpeningRefused mark s k vs → UpTo 8 k vs
+pub opening-in-table : {mark : List ℕ} {newest : ℕ} {s : List ℕ} {k : ℕ} {vs : List ℕ} → OpeningRefused mark newest s k vs → UpTo 8 k vs
 opening-in-table (under-seven h) = ((refusal.UnderSeven, refl, refl), omega arith)
 opening-in-table (mark-differs h differs) = ((refusal.MarkDiffers, refl, refl), omega arith)
-opening-in-table (version-not-one h stands other) = ((refusal.VersionNotOne, refl, refl), omega arith)
+opening-in-table (other-version h stands other) = ((refusal.VersionNotOne, refl, refl), omega arith)
 
-row-in-table : {row : List ℕ} {lot calls k : ℕ} {vs : List ℕ} → RowRefused row lot calls k vs → UpTo 8 k vs
+row-in-table : {row : List ℕ} {version lot calls k : ℕ} {vs : List ℕ} → RowRefused row version lot calls k vs → UpTo 8 k vs
 row-in-table (word-cut h) = ((refusal.EndsEarly, refl, refl), omega arith)
-row-in-table {row} {lot} (bit-outside h outside set) = ((refusal.BitOutside (record { 0 = lot }), refl, refl), omega arith)
+row-in-table {lot = lot} (bit-outside h outside set) = ((refusal.BitOutside (record { 0 = lot }), refl, refl), omega arith)
 row-in-table (costs-cut h below short) = ((refusal.EndsEarly, refl, refl), omega arith)
-row-in-table {row} {lot} (cost-too-high {j} below whole lower h set high) =
+row-in-table {lot = lot} (cost-too-high {j} below whole lower h set high) =
     ((refusal.CostTooHigh (record { 0 = lot }) (record { 0 = j }), refl, refl), omega arith)
 
 pub book-in-table : {book : List ℕ} {k : ℕ} {vs : List ℕ} → BookRefused book k vs → UpTo 8 k vs

@@ -12,7 +12,9 @@ use lib.Seq.{length-take-le}
 use Rattle.transport.proofs.Laws.Tests.{T-true, and-says}
 use Rattle.specification.specs.Reply.{gives, Size}
 use Rattle.specification.specs.Bytes.{u32At}
-use Rattle.specification.specs.Book.{bit, rowWord, bookLots, bookCalls, readBook, rowAt, problemOf, lotCosts}
+use Rattle.specification.specs.Costs.{heldCost}
+use Rattle.specification.specs.Book.{bit, rowWord, rowCost, bookVersion, bookLots, bookCalls, readBook, rowAt}
+use Rattle.specification.specs.Book.{problemOf, costsOf, lotCosts}
 use Rattle.specification.proofs.Numbers.{u32-take, u32-drop}
 use Rattle.specification.proofs.Bits.{ones-below-lt}
 use Rattle.specification.proofs.Books.{book-read}
@@ -35,7 +37,7 @@ module _ (book : List ℕ) (n : Size) (e : readBook book ≡ gives n) (i : ℕ) 
       ap length stretch-is ∙ length-take-le (4 * set-bits) costs (omega (arith, length-drop 4 (rowAt book i), row .costs-whole))
 
   pub lot-cost-at : (j : ℕ) → T (problemOf book .admits i j)
-      → u32At (lotCosts book i) (4 * ones (rowWord (rowAt book i) % 2 ^ j)) ≡ problemOf book .cost i j
+      → u32At (lotCosts book i) (4 * ones (rowWord (rowAt book i) % 2 ^ j)) ≡ rowCost (rowAt book i) j
   unfolding problemOf set-bits
   lot-cost-at j admitted =
       let (_, rest) = and-says (ltb i (bookLots book)) (ltb j (bookCalls book) && bit (rowWord (rowAt book i)) j) admitted in
@@ -44,3 +46,8 @@ module _ (book : List ℕ) (n : Size) (e : readBook book ≡ gives n) (i : ℕ) 
       ap (λ (s : List ℕ). u32At s at) stretch-is
       ∙ u32-take (4 * set-bits) (drop 4 (rowAt book i)) at (omega (arith, ones-below-lt (rowWord (rowAt book i)) j set))
       ∙ u32-drop 4 (rowAt book i) at
+
+  pub lot-cost-held : (j : ℕ) → T (problemOf book .admits i j)
+      → heldCost (bookVersion book) (u32At (lotCosts book i) (4 * ones (rowWord (rowAt book i) % 2 ^ j))) ≡ costsOf book i j
+  unfolding costsOf
+  lot-cost-held j admitted = ap (heldCost (bookVersion book)) (lot-cost-at j admitted)

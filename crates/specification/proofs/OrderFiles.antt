@@ -37,13 +37,13 @@ module _ (S : List Pair) where
   pub order-file-length : length (orderFile S) ≡ 7 + 2 * length S
   order-file-length = omega (arith, length-pairBytes S)
 
-  opened : Opened orderMark (orderFile S)
+  opened : Opened orderMark 1 (orderFile S)
   unfolding u16At
-  opened = record { seven = omega arith; mark-stands = tt; version-one = refl }
+  opened = record { seven = omega arith; mark-stands = tt; version-stands = tt }
 
   pub order-file-shaped : OrderShaped (orderFile S)
   order-file-shaped = record {
-    opening = gives-if-never-refused (opening-says orderMark (orderFile S)) (λ k vs. opened-not-refused opened) .2;
+    opening = gives-if-never-refused (opening-says orderMark 1 (orderFile S)) (λ k vs. opened-not-refused opened) .2;
     whole = omega (arith, order-file-length, count-back);
   }
 

@@ -9,7 +9,7 @@ use lib.Dec.{T, ltb, ltb→lt, lt→ltb}
 use Rattle.transport.specs.Problem.{Eligible}
 use Rattle.transport.proofs.Laws.Tests.{T-true, T-false, and-says}
 use Rattle.specification.specs.Reply.{gives, Size}
-use Rattle.specification.specs.Book.{readBook, problemOf, costs, notEligible, outside, pairCost}
+use Rattle.specification.specs.Book.{readBook, problemOf, costsOf, costs, notEligible, outside, pairCost}
 use Rattle.specification.proofs.Replies.{Says, giving, says-then}
 use Rattle.specification.proofs.Books.{BookRefused, book-says, book-limits}
 
@@ -19,10 +19,10 @@ pair-cost-says book i j = says-then _ (book-says book) (λ k vs q. q) (λ n read
 
 module _ (book : List ℕ) (n : Size) (e : readBook book ≡ gives n) (i j : ℕ) where
   pair-inside : i < n .lots → j < n .calls
-      → pairCost book i j ≡ gives (cond (problemOf book .admits i j) (costs (problemOf book .cost i j)) notEligible)
+      → pairCost book i j ≡ gives (cond (problemOf book .admits i j) (costs (costsOf book i j)) notEligible)
   pair-inside h g = rw (e, T-true (ltb i (n .lots)) (lt→ltb i (n .lots) h), T-true (ltb j (n .calls)) (lt→ltb j (n .calls) g)) refl
 
-  pub pair-costs : Eligible (problemOf book) i j → pairCost book i j ≡ gives (costs (problemOf book .cost i j))
+  pub pair-costs : Eligible (problemOf book) i j → pairCost book i j ≡ gives (costs (costsOf book i j))
   pair-costs (h, g, admitted) =
       let limits = book-limits book n e in
       pair-inside (omega (arith, limits .its-lots)) (omega (arith, limits .its-calls))

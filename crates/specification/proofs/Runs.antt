@@ -9,16 +9,21 @@ use Prim.Native.Nat.{ℕ, _*_, _≤_, _<_}
 use native.Mathlib.Omega.{arith}
 use lib.Dec.{ltb→lt, nltb→le}
 use lib.ListN.{length}
+use lib.IntN.{ℤ}
 use Rattle.transport.specs.Problem.{Problem}
 use Rattle.transport.specs.Greedy.{State}
+use Rattle.transport.specs.Order.{Monge}
+use Rattle.transport.specs.Signed.{Lifts}
 use Rattle.transport.proofs.Orders.Lists.{lists-of-order}
 use Rattle.transport.proofs.Greedy.Given.{Kept, kept-meets, kept-meets-calls, greedy-kept}
-use Rattle.transport.proofs.Greedy.Optimal.{greedy-most-units, greedy-least-cost, good-of-monge}
+use Rattle.transport.proofs.Greedy.Optimal.{greedy-most-units, good-of-monge}
+use Rattle.transport.proofs.Greedy.Signed.{signed-least-cost}
 use Rattle.transport.proofs.Theorems.{greedy-spends-iff}
 use Rattle.transport.proofs.Theorems.Covered.{greedy-covers-iff}
 use Rattle.specification.specs.declared.Refusal.the-variants as refusal
 use Rattle.specification.specs.Reply.{gives, refuses, Size, Outcome}
-use Rattle.specification.specs.Book.{problemOf}
+use Rattle.specification.specs.Costs.{costBase}
+use Rattle.specification.specs.Book.{bookVersion, problemOf, costsOf}
 use Rattle.specification.specs.Amounts.{readAmounts, lotAmount, callAmount}
 use Rattle.specification.specs.OrderFile.{orderPairs}
 use Rattle.specification.specs.Check.{checkOrder}
@@ -35,7 +40,7 @@ use Rattle.specification.proofs.Replies.{
   says-unless,
   says-afterwards,
 }
-use Rattle.specification.proofs.Books.{BookRead}
+use Rattle.specification.proofs.Books.{BookRead, book-read, book-lifts, book-monge, book-good}
 use Rattle.specification.proofs.AmountsFiles.{AmountsRead, AmountsOrBookRefused, amounts-say}
 use Rattle.specification.proofs.Lines.{amounts-in-table}
 use Rattle.specification.proofs.Checks.{CheckRefused, check-says, check-in-table, check-passes}
@@ -58,15 +63,15 @@ run-in-table (flow-too-short passing read h) = (refusal.BufferTooShort, refl, re
 
 -- the outcome is GREEDY's, the order passes, the amounts are read, and the flow buffer is long enough
 pub record RunGave (book order amounts flow : List ℕ) (o : Outcome) : Type 0 where
-  pub outcome-is : o ≡ outcome (problemOf book) (greedyOn book (orderPairs order) amounts)
+  pub outcome-is : o ≡ outcome (problemOf book) (costsOf book) (greedyOn book (orderPairs order) amounts)
   pub passing : Passing book order
   pub read : (n : Size) × BookRead book n × AmountsRead n amounts
   pub long : problemOf book .lots * problemOf book .calls ≤ length flow
 
 -- a state that keeps the amounts, nothing being still to come: its outcome and flow are what a run writes and replies
-pub ran-of : (P : Problem) {a b : ℕ → ℕ} {s : State} → Kept P a b [] s → (flow : List ℕ) → P .lots * P .calls ≤ length flow
-    → Ran P a b (s .given) flow (flowOf P (s .given) flow) (outcome P s)
-ran-of P {a} {b} {s} kept flow long = record {
+pub ran-of : (P : Problem) (c : ℕ → ℕ → ℤ) {a b : ℕ → ℕ} {s : State} → Kept P a b [] s → (flow : List ℕ)
+    → P .lots * P .calls ≤ length flow → Ran P c a b (s .given) flow (flowOf P (s .given) flow) (outcome P c s)
+ran-of P c {a} {b} {s} kept flow long = record {
   flow = flow-at P _ flow;
   not-eligible = kept .eligible-only;
   kept = flow-kept P _ flow;
@@ -74,7 +79,7 @@ ran-of P {a} {b} {s} kept flow long = record {
   its-units = refl;
   its-cost = refl;
   units-of-flow = units-over-flow P _ flow;
-  cost-of-flow = cost-over-flow P _ flow;
+  cost-of-flow = cost-over-flow P _ flow c;
   full-told = Iff·trans (full-iff-spent P s) (Iff·symm (kept-meets kept));
   covered-told = (
     λ e.
@@ -105,38 +110,46 @@ module _ (book order amounts flow : List ℕ) where
 
   -- a run that is not refused writes GREEDY's units
   module _ (o : Outcome) (e : runOrder book order amounts flow ≡ gives o) where
-    pub outcome-is : o ≡ outcome (problemOf book) (greedyOn book (orderPairs order) amounts)
+    pub outcome-is : o ≡ outcome (problemOf book) (costsOf book) (greedyOn book (orderPairs order) amounts)
     outcome-is = said-of-given run-says o e .outcome-is
 
     pub run-flow-is : runFlow book order amounts flow ≡ flowOf (problemOf book) (greedyOn book (orderPairs order) amounts .given) flow
     unfolding runFlow
     run-flow-is = rw e refl
 
-    pub ran : Ran (problemOf book) (lotAmount amounts) (callAmount book amounts) (greedyOn book (orderPairs order) amounts .given)
+    pub ran : Ran (problemOf book) (costsOf book) (lotAmount amounts) (callAmount book amounts)
+        (greedyOn book (orderPairs order) amounts .given)
         flow (runFlow book order amounts flow) o
     ran =
         let gave = said-of-given run-says o e in
-        rw (run-flow-is, outcome-is) (ran-of (problemOf book) (greedy-kept (lists-of-order (gave .passing .each-once)) _ _) flow (gave .long))
+        let kept = greedy-kept (lists-of-order (gave .passing .each-once)) _ _ in
+        rw (run-flow-is, outcome-is) (ran-of (problemOf book) (costsOf book) kept flow (gave .long))
 
 -- every order that passes is good, gives most units, and its runs are refused for the amounts or the buffer alone
 module _ (book order : List ℕ) (passing : Passing book order) where
+  lifts : Lifts (costBase (bookVersion book)) (problemOf book) (costsOf book)
+  lifts = book-lifts (book-read book _ (passing .readable .1))
+
+  monge : Monge (problemOf book) (orderPairs order)
+  monge = book-monge book (passing .readable) (orderPairs order) .0 (passing .monge)
+
   -- the outcome of GREEDY by it, on the amounts of a file
-  passing-best : (amounts : List ℕ) → Best book amounts (outcome (problemOf book) (greedyOn book (orderPairs order) amounts))
+  passing-best : (amounts : List ℕ) → Best book amounts (outcome (problemOf book) (costsOf book) (greedyOn book (orderPairs order) amounts))
   passing-best amounts =
       let by : State = greedyOn book (orderPairs order) amounts in
       let (a, b) : (ℕ → ℕ) × (ℕ → ℕ) = (lotAmount amounts, callAmount book amounts) in
       record {
         verdicts = verdicts-of book amounts by
-            (greedy-spends-iff (passing .each-once) (passing .monge) a b)
-            (greedy-covers-iff (passing .each-once) (passing .monge) a b);
-        least-cost = λ x m. greedy-least-cost (passing .each-once) (passing .monge) a b m .1;
-        greatest-units = λ x h. greedy-most-units (passing .each-once) (passing .monge) a b h;
+            (greedy-spends-iff (passing .each-once) monge a b)
+            (greedy-covers-iff (passing .each-once) monge a b);
+        least-cost = λ x m. signed-least-cost lifts (passing .each-once) monge a b m .1;
+        greatest-units = λ x h. greedy-most-units (passing .each-once) monge a b h;
       }
 
   pub by-passing : ByPassing book order
   by-passing = record {
-    good = (passing .each-once, good-of-monge (passing .each-once) (passing .monge) _);
-    most-units = λ a b within x h. greedy-most-units (passing .each-once) (passing .monge) a b h;
+    good = (passing .each-once, book-good book (passing .readable) _ _ .1 (good-of-monge (passing .each-once) monge _));
+    most-units = λ a b within x h. greedy-most-units (passing .each-once) monge a b h;
     refused-only = λ amounts flow k vs e. of-run (said-of-refused (run-says book order amounts flow) k vs e);
     units-and-cost = λ amounts flow o e.
         let is = outcome-is book order amounts flow o e in

@@ -1,5 +1,5 @@
 -- Where a book holds its rows and costs. The row of a lot is the rest of the book from the byte at which it starts (`row-is`), and in a
--- readable book it stands whole (`row-inside`). So the cost of an eligible pair is the number in four bytes of the book (`cost-inside`,
+-- readable book it stands whole (`row-inside`). So the cost of an eligible pair is held in four bytes of the book (`cost-inside`,
 -- `cost-held`).
 use mathlib.Core.Path.{_≡_, refl, sym, _∙_, ap}
 use mathlib.Core.Bool.{_&&_}
@@ -14,7 +14,7 @@ use Rattle.transport.specs.Problem.{Eligible}
 use Rattle.transport.proofs.Laws.Tests.{and-says}
 use Rattle.specification.specs.Reply.{Size}
 use Rattle.specification.specs.Bytes.{u32At}
-use Rattle.specification.specs.Book.{bit, rowWord, rowSize, bookLots, bookCalls, rowAt, rowStart, costStart, problemOf}
+use Rattle.specification.specs.Book.{bit, rowWord, rowSize, rowCost, bookLots, bookCalls, rowAt, rowStart, costStart, problemOf}
 use Rattle.specification.proofs.Numbers.{u32-drop}
 use Rattle.specification.proofs.Bits.{ones-below-lt}
 use Rattle.specification.proofs.Books.{BookRead}
@@ -28,8 +28,7 @@ pub start-next : (book : List ℕ) (i : ℕ) → rowStart book (i + 1) ≡ rowSt
 unfolding rowStart
 start-next book i = rw add-one
 
-pub cost-held : (book : List ℕ) (i j : ℕ) → u32At book (costStart book i j) ≡ problemOf book .cost i j
-unfolding problemOf
+pub cost-held : (book : List ℕ) (i j : ℕ) → u32At book (costStart book i j) ≡ rowCost (rowAt book i) j
 cost-held book i j = rw (row-is book i) (sym (u32-drop (rowStart book i) book _))
 
 module _ {book : List ℕ} {n : Size} (read : BookRead book n) where

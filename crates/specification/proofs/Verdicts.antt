@@ -12,7 +12,7 @@ use Rattle.transport.specs.Greedy.{State}
 use Rattle.transport.proofs.Laws.Searches.{every-says, every-of, every-fails}
 use Rattle.transport.proofs.Greedy.Given.{Spent, NoneLacks}
 use Rattle.specification.specs.Reply.{full, covered, short}
-use Rattle.specification.specs.Book.{problemOf}
+use Rattle.specification.specs.Book.{problemOf, costsOf}
 use Rattle.specification.specs.Amounts.{lotAmount, callAmount}
 use Rattle.specification.specs.Run.{allZero, verdictBy, verdictOf, outcome}
 use Rattle.specification.specs.Demands.{Verdicts}
@@ -98,7 +98,7 @@ module _ (P : Problem) (s : State) where
 pub verdicts-of : (book amounts : List ℕ) (s : State)
     → Spent (problemOf book) s ↔ ((x : ℕ → ℕ → ℕ) × Meets (problemOf book) (lotAmount amounts) (callAmount book amounts) x)
     → NoneLacks (problemOf book) s ↔ ((x : ℕ → ℕ → ℕ) × MeetsCalls (problemOf book) (lotAmount amounts) (callAmount book amounts) x)
-    → Verdicts book amounts (outcome (problemOf book) s)
+    → Verdicts book amounts (outcome (problemOf book) (costsOf book) s)
 verdicts-of book amounts s spends covers = record {
   full-iff = Iff·trans (full-iff-spent (problemOf book) s) spends;
   met-iff = Iff·trans (met-iff-none-lacks (problemOf book) s) covers;

@@ -32,7 +32,7 @@ callAmount book s j = amountAt s (bookLots book + j)
 -- "Amounts: 1, 2, 3, 15, 6, 8, 16", with n and m of a readable book; the length is held against the book's n and m
 unfoldable pub readAmountsOf : Size → List ℕ → Reply Size
 readAmountsOf size s = do
-  _ ← readOpening amountsMark s
+  _ ← readOpening amountsMark 1 s
   _ ← refuseIf (not (eqb (byteAt s 5) (size .lots) && eqb (byteAt s 6) (size .calls))) 15 []
   _ ← refuseIf (ltb (length s) (7 + 4 * (size .lots + size .calls))) 6 []
   _ ← refuseIf (ltb (7 + 4 * (size .lots + size .calls)) (length s)) 8 []

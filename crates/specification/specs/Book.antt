@@ -5,13 +5,11 @@ use Prim.Native.Nat.{ℕ, zero, suc, _+_, _*_, _/_, _%_, _^_}
 use lib.ListN.{length, take, drop}
 use lib.Dec.{ltb, leb, eqb}
 use lib.Count.{ones}
+use lib.IntN.{ℤ}
 use Rattle.transport.specs.Problem.{Problem}
 use Rattle.specification.specs.Reply.{Reply, gives, refuseIf, _>>=_, afterwards, Size}
-use Rattle.specification.specs.Bytes.{byteAt, u32At, bookMark, readOpening}
-
--- "Costs are .. 0 to 1,000,000"
-abbrev pub costLimit : ℕ
-costLimit = 1000000
+use Rattle.specification.specs.Bytes.{byteAt, u16At, u32At, bookMark, readOpening}
+use Rattle.specification.specs.Costs.{costBase, heldCost, costOutside, liftedCost}
 
 -- "Largest book: 4,231 bytes": the opening, and for each of 32 lots a word and 32 costs
 abbrev pub largestBook : ℕ
@@ -33,31 +31,35 @@ rowSize row = 4 + 4 * ones (rowWord row)
 abbrev pub costInRow : List ℕ → ℕ → ℕ
 costInRow row j = 4 + 4 * ones (rowWord row % 2 ^ j)
 
--- that cost
+-- the 32 bits of that cost
 abbrev pub rowCost : List ℕ → ℕ → ℕ
 rowCost row j = u32At row (costInRow row j)
 
 -- 7 for each cost, lowest bit first: calls j to j + left - 1
-unfoldable pub readCosts : List ℕ → ℕ → ℕ → ℕ → Reply (Unit {0})
-readCosts row lot zero j = gives tt
-readCosts row lot (suc left) j = do
-  _ ← refuseIf (bit (rowWord row) j && ltb costLimit (rowCost row j)) 7 (lot ∷ j ∷ [])
-  readCosts row lot left (suc j)
+unfoldable pub readCosts : List ℕ → ℕ → ℕ → ℕ → ℕ → Reply (Unit {0})
+readCosts row version lot zero j = gives tt
+readCosts row version lot (suc left) j = do
+  _ ← refuseIf (bit (rowWord row) j && costOutside version (rowCost row j)) 7 (lot ∷ j ∷ [])
+  readCosts row version lot left (suc j)
 
 -- "6 for the word, 5, 6 for the costs, 7 for each cost"; a bit m or higher is set where the word is 2 ^ m or more
-unfoldable pub readRow : List ℕ → ℕ → ℕ → Reply (Unit {0})
-readRow row lot calls = do
+unfoldable pub readRow : List ℕ → ℕ → ℕ → ℕ → Reply (Unit {0})
+readRow row version lot calls = do
   _ ← refuseIf (ltb (length row) 4) 6 []
   _ ← refuseIf (leb (2 ^ calls) (rowWord row)) 5 (lot ∷ [])
   _ ← refuseIf (ltb (length row) (rowSize row)) 6 []
-  readCosts row lot calls 0
+  readCosts row version lot calls 0
 
 -- "lot by lot", `left` of them from `lot` on; "then 8"
-unfoldable pub readRows : List ℕ → ℕ → ℕ → ℕ → Reply (Unit {0})
-readRows rest lot zero calls = refuseIf (ltb 0 (length rest)) 8 []
-readRows rest lot (suc left) calls = do
-  _ ← readRow rest lot calls
-  readRows (drop (rowSize rest) rest) (suc lot) left calls
+unfoldable pub readRows : List ℕ → ℕ → ℕ → ℕ → ℕ → Reply (Unit {0})
+readRows rest version lot zero calls = refuseIf (ltb 0 (length rest)) 8 []
+readRows rest version lot (suc left) calls = do
+  _ ← readRow rest version lot calls
+  readRows (drop (rowSize rest) rest) version (suc lot) left calls
+
+-- "a 16-bit version", 1 or 2
+abbrev pub bookVersion : List ℕ → ℕ
+bookVersion book = u16At book 3
 
 -- "Bytes 5 and 6: n, m"
 abbrev pub bookLots : List ℕ → ℕ
@@ -74,9 +76,9 @@ countOutside n = eqb n 0 || ltb 32 n
 -- "Book: 1, 2, 3, 4; then lot by lot .. then 8"; the reply is n and m
 unfoldable pub readBook : List ℕ → Reply Size
 readBook book = do
-  _ ← readOpening bookMark book
+  _ ← readOpening bookMark 2 book
   _ ← refuseIf (countOutside (bookLots book) || countOutside (bookCalls book)) 4 []
-  _ ← readRows (drop 7 book) 0 (bookLots book) (bookCalls book)
+  _ ← readRows (drop 7 book) (bookVersion book) 0 (bookLots book) (bookCalls book)
   gives (record { lots = bookLots book; calls = bookCalls book })
 
 -- the row of a lot: each starts where the one before it ends, the first after the opening
@@ -93,15 +95,19 @@ rowStart book (suc i) = rowStart book i + rowSize (rowAt book i)
 abbrev pub costStart : List ℕ → ℕ → ℕ → ℕ
 costStart book i j = rowStart book i + costInRow (rowAt book i) j
 
--- the book's transportation problem: n lots, m calls, (i, j) eligible where both are in the book and lot i's word has bit j, its cost;
--- of a pair that is not eligible the cost means nothing
+-- the book's transportation problem: n lots, m calls, (i, j) eligible where both are in the book and lot i's word has bit j, its cost with
+-- the base added (the check compares two costs with two, so that it asks the same); of a pair that is not eligible the cost means nothing
 unfoldable pub problemOf : List ℕ → Problem
 problemOf book = record {
   lots = bookLots book;
   calls = bookCalls book;
   admits = λ i j. ltb i (bookLots book) && (ltb j (bookCalls book) && bit (rowWord (rowAt book i)) j);
-  cost = λ i j. rowCost (rowAt book i) j;
+  cost = λ i j. liftedCost (costBase (bookVersion book)) (rowCost (rowAt book i) j);
 }
+
+-- the cost of each eligible pair, with its sign; what the problem has is tied to it by `Lifts`, in transport
+unfoldable pub costsOf : List ℕ → ℕ → ℕ → ℤ
+costsOf book i j = heldCost (bookVersion book) (rowCost (rowAt book i) j)
 
 -- the stretch of the book that holds a lot's costs, "empty if the book is refused or the lot number is n or more"
 unfoldable pub lotCosts : List ℕ → ℕ → List ℕ
@@ -110,12 +116,12 @@ lotCosts book i = afterwards (readBook book) [] (λ size.
 
 -- what a readable book says of a lot and a call: the pair's cost, that the pair is not eligible, or that one of the two is not in the book
 pub data PairCost : Type 0 where
-  costs : ℕ → PairCost
+  costs : ℤ → PairCost
   notEligible outside : PairCost
 
--- the cost of one pair, lot i with call j: the book's refusals, and else as its problem has the pair
+-- the cost of one pair, lot i with call j: the book's refusals, and else what it says of the pair
 abbrev pub pairCost : List ℕ → ℕ → ℕ → Reply PairCost
 pairCost book i j = readBook book >>= λ size. gives (
     cond (ltb i (size .lots) && ltb j (size .calls))
-    (cond (problemOf book .admits i j) (costs (problemOf book .cost i j)) notEligible)
+    (cond (problemOf book .admits i j) (costs (costsOf book i j)) notEligible)
     outside)

@@ -1,6 +1,6 @@
 -- Little-endian numbers in a list of bytes, and the seven bytes that open each file (document 01, "The three files").
 use mathlib.Core.List.{List, [], _∷_}
-use mathlib.Core.Bool.{Bool, not, _&&_}
+use mathlib.Core.Bool.{Bool, not, _&&_, _||_}
 use Prim.Native.Nat.{ℕ, _+_, _*_}
 use lib.ListN.{length, getD}
 use lib.Dec.{ltb, eqb}
@@ -34,9 +34,13 @@ amountsMark = 67 ∷ 76 ∷ 65 ∷ []
 abbrev pub marked : List ℕ → List ℕ → Bool
 marked mark s = eqb (byteAt s 0) (byteAt mark 0) && (eqb (byteAt s 1) (byteAt mark 1) && eqb (byteAt s 2) (byteAt mark 2))
 
--- 1, 2, 3: under 7 bytes, the mark differs, "a 16-bit version that is 1"
-unfoldable pub readOpening : List ℕ → List ℕ → Reply (Unit {0})
-readOpening mark s = do
+-- the version of a file is not one from 1 to the newest of its kind
+abbrev pub versionOutside : ℕ → List ℕ → Bool
+versionOutside newest s = eqb (u16At s 3) 0 || ltb newest (u16At s 3)
+
+-- 1, 2, 3: under 7 bytes, the mark differs, another version
+unfoldable pub readOpening : List ℕ → ℕ → List ℕ → Reply (Unit {0})
+readOpening mark newest s = do
   _ ← refuseIf (ltb (length s) 7) 1 []
   _ ← refuseIf (not (marked mark s)) 2 []
-  refuseIf (not (eqb (u16At s 3) 1)) 3 []
+  refuseIf (versionOutside newest s) 3 []

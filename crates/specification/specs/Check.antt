@@ -55,7 +55,7 @@ checkMonge P (p ∷ S) = do
 unfoldable pub checkOrder : List ℕ → List ℕ → Reply ℕ
 checkOrder book s = do
   _ ← readBook book
-  _ ← readOpening orderMark s
+  _ ← readOpening orderMark 1 s
   _ ← refuseIf (ltb (length s) (7 + 2 * orderCount s)) 6 []
   _ ← refuseIf (ltb (7 + 2 * orderCount s) (length s)) 8 []
   _ ← checkPairs (problemOf book) [] 0 (orderPairs s)

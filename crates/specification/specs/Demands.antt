@@ -7,14 +7,19 @@ use mathlib.Core.Option.{some}
 use Prim.Native.Nat.{ℕ, _+_, _*_, _%_, _^_, _≤_, _<_}
 use lib.ListN.{length, getD, take}
 use lib.Count.{ones}
-use Rattle.transport.specs.Problem.{Problem, Eligible, sum, lotSum, callSum, units, totalCost, Allocation, Meets, MeetsCalls, Within}
+use lib.IntN.{ℤ}
+use lib.Signed.{_≤ℤ_}
+use Rattle.transport.specs.Problem.{Problem, Eligible, sum, lotSum, callSum, units, Allocation, Meets, MeetsCalls, Within}
 use Rattle.transport.specs.Greedy.{Pair, greedy}
-use Rattle.transport.specs.Order.{OrderOf, Monge, Good}
+use Rattle.transport.specs.Order.{OrderOf}
+use Rattle.transport.specs.Signed.{signedCost, SignedMonge, SignedGood}
 use Rattle.transport.specs.Finder.{size, find}
 use Rattle.specification.specs.declared.Refusal.{Refusal}
 use Rattle.specification.specs.Reply.{Reply, gives, refuses, stated, Size, Outcome, full, covered, short}
 use Rattle.specification.specs.Bytes.{u32At, orderMark, readOpening}
-use Rattle.specification.specs.Book.{costLimit, largestBook, rowWord, readBook, rowAt, problemOf, lotCosts, costs, notEligible, outside, pairCost}
+use Rattle.specification.specs.Costs.{heldCost, Allows}
+use Rattle.specification.specs.Book.{largestBook, bookVersion, rowWord, readBook, rowAt, problemOf, costsOf, lotCosts}
+use Rattle.specification.specs.Book.{costs, notEligible, outside, pairCost}
 use Rattle.specification.specs.Amounts.{amountLimit, readAmounts, lotAmount, callAmount}
 use Rattle.specification.specs.OrderFile.{orderCount, orderPairs, orderFile}
 use Rattle.specification.specs.Check.{checkOrder}
@@ -68,19 +73,19 @@ pub record Demand1 : Type 0 where
 abbrev pub Readable : List ℕ → Type 0
 Readable book = (n : Size) × (readBook book ≡ gives n)
 
--- the limits of document 01, Words, and "Largest book: 4,231 bytes"
+-- the limits of document 01, Words, with those of the costs by the version (document 02, request 4), and "Largest book: 4,231 bytes"
 pub record BookLimits (book : List ℕ) (n : Size) : Type 0 where
   pub its-lots : problemOf book .lots ≡ n .lots
   pub its-calls : problemOf book .calls ≡ n .calls
   pub lots : (1 ≤ n .lots) × (n .lots ≤ 32)
   pub calls : (1 ≤ n .calls) × (n .calls ≤ 32)
-  pub costs : (i j : ℕ) → Eligible (problemOf book) i j → problemOf book .cost i j ≤ costLimit
+  pub costs : (i j : ℕ) → Eligible (problemOf book) i j → Allows (bookVersion book) (costsOf book i j)
   pub pairs : size (problemOf book) ≤ 1024
   pub bytes : length book ≤ largestBook
 
 -- an order file with the right opening and length; which pairs it holds is another question
 pub record OrderShaped (order : List ℕ) : Type 0 where
-  pub opening : readOpening orderMark order ≡ gives tt
+  pub opening : readOpening orderMark 1 order ≡ gives tt
   pub whole : length order ≡ 7 + 2 * orderCount order
 
 -- an order file of a readable book that holds an order of the eligible pairs, which is a Monge sequence of the book
@@ -88,18 +93,18 @@ pub record Passing (book order : List ℕ) : Type 0 where
   pub readable : Readable book
   pub shaped : OrderShaped order
   pub each-once : OrderOf (problemOf book) (orderPairs order)
-  pub monge : Monge (problemOf book) (orderPairs order)
+  pub monge : SignedMonge (problemOf book) (costsOf book) (orderPairs order)
 
 -- "the sums over the flow written" (document 01, Running an order): units
 abbrev pub flowUnits : Problem → List ℕ → ℕ
 flowUnits P flow = sum (P .lots) (λ i. sum (P .calls) (λ j. getD flow (i * P .calls + j) 0))
 
 -- and cost
-abbrev pub flowCost : Problem → List ℕ → ℕ
-flowCost P flow = sum (P .lots) (λ i. sum (P .calls) (λ j. getD flow (i * P .calls + j) 0 * P .cost i j))
+abbrev pub flowCost : Problem → (ℕ → ℕ → ℤ) → List ℕ → ℤ
+flowCost P c flow = signedCost P c (λ i j. getD flow (i * P .calls + j) 0)
 
--- what an accepted run on the amounts a and b writes and replies, x being GREEDY's units of each pair
-pub record Ran (P : Problem) (a b : ℕ → ℕ) (x : ℕ → ℕ → ℕ) (before after : List ℕ) (o : Outcome) : Type 0 where
+-- what an accepted run on the amounts a and b writes and replies, c being the cost of each pair and x GREEDY's units of it
+pub record Ran (P : Problem) (c : ℕ → ℕ → ℤ) (a b : ℕ → ℕ) (x : ℕ → ℕ → ℕ) (before after : List ℕ) (o : Outcome) : Type 0 where
   -- "a run's flow .. [is] .. their GREEDY['s]"
   pub flow : (i j : ℕ) → i < P .lots → j < P .calls → getD after (i * P .calls + j) 0 ≡ x i j
   -- "0 if not eligible" (document 01)
@@ -109,10 +114,10 @@ pub record Ran (P : Problem) (a b : ℕ → ℕ) (x : ℕ → ℕ → ℕ) (befo
   pub as-many : length after ≡ length before
   -- "units and cost are those of their GREEDY"
   pub its-units : o .units ≡ units P x
-  pub its-cost : o .cost ≡ totalCost P x
+  pub its-cost : o .cost ≡ signedCost P c x
   -- and "the sums over the flow written"
   pub units-of-flow : o .units ≡ flowUnits P after
-  pub cost-of-flow : o .cost ≡ flowCost P after
+  pub cost-of-flow : o .cost ≡ flowCost P c after
   -- "Full .. if nothing is left in any lot or call" (document 01)
   pub full-told : (o .verdict ≡ full) ↔ Meets P a b x
   -- "Covered .. when every call is met and some lot has units left" (document 02, request 1)
@@ -127,7 +132,7 @@ pub record RanIdle (book amounts flow : List ℕ) (o : Outcome) : Type 0 where
   pub found : find (enlarged book) ≡ some order
   -- "The flow, units, cost and verdict returned are those of the real calls, the flow laid out by the book's own m, units in the idle call
   -- counting as left": what a lot has left is its amount less the units written for it
-  pub ran : Ran (problemOf book) (lotAmount amounts) (callAmount book amounts) (greedyIdleOn book order amounts .given)
+  pub ran : Ran (problemOf book) (costsOf book) (lotAmount amounts) (callAmount book amounts) (greedyIdleOn book order amounts .given)
       flow (findAndRunIdleFlow book amounts flow) o
 
 -- "the order file that the finder wrote, which ends at the length it replied" (document 01, Words)
@@ -141,13 +146,13 @@ pub record Demand2 : Type 0 where
   pub book-limits : (book : List ℕ) (n : Size) → readBook book ≡ gives n → BookLimits book n
   -- "The costs of a lot are handed back as that stretch" (document 01): the cost of (i, j) stands behind those of the lower set bits
   pub lot-costs : (book : List ℕ) (n : Size) → readBook book ≡ gives n → (i j : ℕ) → Eligible (problemOf book) i j
-      → u32At (lotCosts book i) (4 * ones (rowWord (rowAt book i) % 2 ^ j)) ≡ problemOf book .cost i j
+      → heldCost (bookVersion book) (u32At (lotCosts book i) (4 * ones (rowWord (rowAt book i) % 2 ^ j))) ≡ costsOf book i j
   -- "The number of set bits tells how many costs the lot has" (document 01)
   pub lot-costs-length : (book : List ℕ) (n : Size) → readBook book ≡ gives n → (i : ℕ) → i < problemOf book .lots
       → length (lotCosts book i) ≡ 4 * ones (rowWord (rowAt book i))
   -- the cost of one pair: that of an eligible pair is replied
   pub pair-costs : (book : List ℕ) (n : Size) → readBook book ≡ gives n → (i j : ℕ) → Eligible (problemOf book) i j
-      → pairCost book i j ≡ gives (costs (problemOf book .cost i j))
+      → pairCost book i j ≡ gives (costs (costsOf book i j))
   -- of another pair of the book's lots and calls, that it is not eligible
   pub pair-not-eligible : (book : List ℕ) (n : Size) → readBook book ≡ gives n → (i j : ℕ) → i < n .lots → j < n .calls
       → (Eligible (problemOf book) i j → ⊥) → pairCost book i j ≡ gives notEligible
@@ -165,7 +170,7 @@ pub record Demand2 : Type 0 where
   pub only-these : (book order : List ℕ) (n : ℕ) → checkOrder book order ≡ gives n → Passing book order
   -- "a run's flow, units and cost are those of their GREEDY", and its verdict says what they leave
   pub runs : (book order amounts flow : List ℕ) (o : Outcome) → runOrder book order amounts flow ≡ gives o
-      → Ran (problemOf book) (lotAmount amounts) (callAmount book amounts) (greedyOn book (orderPairs order) amounts .given)
+      → Ran (problemOf book) (costsOf book) (lotAmount amounts) (callAmount book amounts) (greedyOn book (orderPairs order) amounts .given)
       flow (runFlow book order amounts flow) o
   -- with an idle call those of GREEDY on the enlarged book, of the real calls (document 02, request 2)
   pub runs-idle : (book amounts flow : List ℕ) (o : Outcome) → findAndRunIdle book amounts flow ≡ gives o → RanIdle book amounts flow o
@@ -181,9 +186,10 @@ pub record Demand2 : Type 0 where
       → readAmounts book amounts ≡ gives n → n .lots * n .calls ≤ length flow → findAndRun book amounts flow ≡ refuses 13 []
 
 -- "An order of the eligible pairs is good if, for all amounts of equal total within the limits, GREEDY by it meets everything whenever
--- some allocation does, and every other allocation that meets everything costs at least as much" (`Good`, in transport)
-abbrev pub GoodOrder : Problem → List Pair → Type 0
-GoodOrder P S = OrderOf P S × Good amountLimit P S
+-- some allocation does, and every other allocation that meets everything costs at least as much" (`SignedGood`, in transport), c being the cost of each
+-- pair
+abbrev pub GoodOrder : Problem → (ℕ → ℕ → ℤ) → List Pair → Type 0
+GoodOrder P c S = OrderOf P S × SignedGood amountLimit P c S
 
 -- what the verdict of an accepted run says, of the allocations of its book and amounts
 pub record Verdicts (book amounts : List ℕ) (o : Outcome) : Type 0 where
@@ -196,9 +202,10 @@ pub record Verdicts (book amounts : List ℕ) (o : Outcome) : Type 0 where
 -- what its reply says besides
 pub record Best (book amounts : List ℕ) (o : Outcome) : Type 0 where
   pub verdicts : Verdicts book amounts o
-  -- "The cost of meeting everything is least"
+  -- "The cost of meeting everything is least"; it "may be below zero", and it is "that least one under either version" (document 02,
+  -- request 4)
   pub least-cost : (x : ℕ → ℕ → ℕ) → Meets (problemOf book) (lotAmount amounts) (callAmount book amounts) x
-      → o .cost ≤ totalCost (problemOf book) x
+      → o .cost ≤ℤ signedCost (problemOf book) (costsOf book) x
   -- "and the unit count greatest"
   pub greatest-units : (x : ℕ → ℕ → ℕ) → Allocation (problemOf book) (lotAmount amounts) (callAmount book amounts) x
       → units (problemOf book) x ≤ o .units
@@ -206,7 +213,7 @@ pub record Best (book amounts : List ℕ) (o : Outcome) : Type 0 where
 -- what holds of an order file that passes the check, and of every run of the book by it
 pub record ByPassing (book order : List ℕ) : Type 0 where
   -- "The returned order is good"
-  pub good : GoodOrder (problemOf book) (orderPairs order)
+  pub good : GoodOrder (problemOf book) (costsOf book) (orderPairs order)
   -- "Whatever the amounts within the limits, totals equal or not, every other allocation has at most as many units as GREEDY by it"
   pub most-units : (a b : ℕ → ℕ) → Within amountLimit (problemOf book) a b → (x : ℕ → ℕ → ℕ) → Allocation (problemOf book) a b x
       → units (problemOf book) x ≤ units (problemOf book) (greedy (orderPairs order) a b .given)
@@ -216,7 +223,7 @@ pub record ByPassing (book order : List ℕ) : Type 0 where
   -- "otherwise it replies GREEDY's units and cost"
   pub units-and-cost : (amounts flow : List ℕ) (o : Outcome) → runOrder book order amounts flow ≡ gives o
       → (o .units ≡ units (problemOf book) (greedyOn book (orderPairs order) amounts .given))
-      × (o .cost ≡ totalCost (problemOf book) (greedyOn book (orderPairs order) amounts .given))
+      × (o .cost ≡ signedCost (problemOf book) (costsOf book) (greedyOn book (orderPairs order) amounts .given))
   -- and what that reply says
   pub best : (amounts flow : List ℕ) (o : Outcome) → runOrder book order amounts flow ≡ gives o → Best book amounts o
 
@@ -225,10 +232,10 @@ pub record Demand3 : Type 0 where
   -- "For every readable book the finder, given a long enough buffer, returns an order exactly when some order of the eligible pairs is
   -- good": when; only when, since the returned order is one
   pub finds : (book buffer : List ℕ) → Readable book → orderLength book ≤ length buffer
-      → (S : List Pair) → GoodOrder (problemOf book) S → findOrder book buffer ≡ gives (orderLength book)
+      → (S : List Pair) → GoodOrder (problemOf book) (costsOf book) S → findOrder book buffer ≡ gives (orderLength book)
   -- "and replies 13 otherwise"
   pub or-13 : (book buffer : List ℕ) → Readable book → orderLength book ≤ length buffer
-      → ((S : List Pair) → GoodOrder (problemOf book) S → ⊥) → findOrder book buffer ≡ refuses 13 []
+      → ((S : List Pair) → GoodOrder (problemOf book) (costsOf book) S → ⊥) → findOrder book buffer ≡ refuses 13 []
   -- there is no third reply
   pub one-of-two : (book buffer : List ℕ) → Readable book → orderLength book ≤ length buffer
       → (findOrder book buffer ≡ gives (orderLength book)) ⊎ (findOrder book buffer ≡ refuses 13 [])
@@ -238,7 +245,7 @@ pub record Demand3 : Type 0 where
   -- it is one of those that pass, and the same holds of each of them
   pub by-passing : (book order : List ℕ) (n : ℕ) → checkOrder book order ≡ gives n → ByPassing book order
   -- which are the files of the good orders: one that holds a good order passes
-  pub good-passes : (book order : List ℕ) → Readable book → OrderShaped order → GoodOrder (problemOf book) (orderPairs order)
+  pub good-passes : (book order : List ℕ) → Readable book → OrderShaped order → GoodOrder (problemOf book) (costsOf book) (orderPairs order)
       → checkOrder book order ≡ gives (orderCount order)
   -- so it holds of every run "that isn't refused" (request 1)
   pub run : (book order amounts flow : List ℕ) (o : Outcome) → runOrder book order amounts flow ≡ gives o → Best book amounts o

@@ -4,13 +4,15 @@ use mathlib.Core.List.{List, [], _∷_, _++_}
 use Prim.Native.Nat.{ℕ, suc}
 use lib.ListN.{replicate}
 use lib.Count.{ones, onesIn}
+use lib.IntN.{ℤ, pos}
 use Rattle.transport.specs.Problem.{sum}
+use Rattle.transport.specs.Signed.{sumℤ}
 use Rattle.transport.specs.Greedy.{Pair, pair, giveAll}
 use Rattle.transport.specs.Order.{times}
 use Rattle.transport.specs.Finder.{every, first, takeFrom}
 use Rattle.specification.specs.Reply.{Reply, gives, refuses, Verdict, full, covered, short}
 use Rattle.specification.specs.Bytes.{u16At, u32At, bookMark, amountsMark, readOpening}
-use Rattle.specification.specs.Book.{readCosts, readRow, readRows, readBook, rowAt, problemOf}
+use Rattle.specification.specs.Book.{readCosts, readRow, readRows, readBook, rowAt, problemOf, costsOf}
 use Rattle.specification.specs.OrderFile.{pairs, pairBytes, orderFile}
 use Rattle.specification.specs.Check.{checkPairs, checkQuadruple, inTurn, checkMonge, checkOrder}
 use Rattle.specification.specs.Amounts.{readAmountsOf, readAmounts}
@@ -64,7 +66,7 @@ abbrev Checks : List ℕ → List Pair → Reply ℕ → Type 0
 Checks b S r = checkOrder b (orderFile S) ≡ r
 
 -- find and run in one call, on a flow buffer that is one entry longer than it must be
-abbrev Places : List ℕ → List ℕ → Verdict → ℕ → ℕ → List ℕ → List ℕ → Type 0
+abbrev Places : List ℕ → List ℕ → Verdict → ℕ → ℤ → List ℕ → List ℕ → Type 0
 Places b a v u c before after =
     (findAndRun b a before ≡ gives (record { verdict = v; units = u; cost = c })) × (findAndRunFlow b a before ≡ after)
 
@@ -84,25 +86,25 @@ text5436 = 70 ∷ 85 ∷ 76 ∷ 76 ∷ 32 ∷ 57 ∷ 32 ∷ 50 ∷ 52 ∷ 10
 -- (document 02, request 1)
 pub record KnownExamples : Type 0 where
   pub f1-found : Finds book1235 (pair 0 1 ∷ pair 0 0 ∷ pair 1 0 ∷ pair 1 1 ∷ []) 15
-  pub f1-placed : Places book1235 amounts5436 full 9 24 (9 ∷ 9 ∷ 9 ∷ 9 ∷ 9 ∷ []) (0 ∷ 5 ∷ 3 ∷ 1 ∷ 9 ∷ [])
+  pub f1-placed : Places book1235 amounts5436 full 9 (pos 24) (9 ∷ 9 ∷ 9 ∷ 9 ∷ 9 ∷ []) (0 ∷ 5 ∷ 3 ∷ 1 ∷ 9 ∷ [])
   pub f2 : Checks book1235 (pair 0 0 ∷ pair 0 1 ∷ pair 1 0 ∷ pair 1 1 ∷ []) (refuses 12 (0 ∷ 0 ∷ 1 ∷ 1 ∷ []))
   pub f3 : Checks book1235 (pair 1 1 ∷ pair 0 0 ∷ pair 0 1 ∷ pair 1 0 ∷ []) (refuses 12 (1 ∷ 1 ∷ 0 ∷ 0 ∷ []))
   pub f4 : Checks book1235 (pair 0 1 ∷ pair 1 0 ∷ pair 0 0 ∷ pair 1 1 ∷ []) (gives 4)
   pub f5 : Checks book1234 (pair 0 0 ∷ pair 0 1 ∷ pair 1 0 ∷ pair 1 1 ∷ []) (gives 4)
   pub f6 : Checks bookGap (pair 0 0 ∷ pair 0 1 ∷ pair 1 0 ∷ []) (refuses 11 (0 ∷ 0 ∷ 1 ∷ 1 ∷ []))
   pub f7-found : Finds bookGap (pair 0 1 ∷ pair 0 0 ∷ pair 1 0 ∷ []) 13
-  pub f7-placed : Places bookGap (amounts 2 2 (1 ∷ 1 ∷ 1 ∷ 1 ∷ [])) full 2 0 (9 ∷ 9 ∷ 9 ∷ 9 ∷ 9 ∷ []) (0 ∷ 1 ∷ 1 ∷ 0 ∷ 9 ∷ [])
-  pub f8 : Places bookGap (amounts 2 2 (2 ∷ 0 ∷ 1 ∷ 0 ∷ [])) covered 1 0 (9 ∷ 9 ∷ 9 ∷ 9 ∷ 9 ∷ []) (1 ∷ 0 ∷ 0 ∷ 0 ∷ 9 ∷ [])
+  pub f7-placed : Places bookGap (amounts 2 2 (1 ∷ 1 ∷ 1 ∷ 1 ∷ [])) full 2 (pos 0) (9 ∷ 9 ∷ 9 ∷ 9 ∷ 9 ∷ []) (0 ∷ 1 ∷ 1 ∷ 0 ∷ 9 ∷ [])
+  pub f8 : Places bookGap (amounts 2 2 (2 ∷ 0 ∷ 1 ∷ 0 ∷ [])) covered 1 (pos 0) (9 ∷ 9 ∷ 9 ∷ 9 ∷ 9 ∷ []) (1 ∷ 0 ∷ 0 ∷ 0 ∷ 9 ∷ [])
   pub f9 : findOrder bookDiagonal (replicate 19 7) ≡ refuses 13 []
   pub f10-found : Finds bookEmpty [] 7
-  pub f10-placed : Places bookEmpty (amounts 1 1 (1 ∷ 1 ∷ [])) short 0 0 (9 ∷ 9 ∷ []) (0 ∷ 9 ∷ [])
-  pub f11 : Places bookEmpty (amounts 1 1 (0 ∷ 0 ∷ [])) full 0 0 (9 ∷ 9 ∷ []) (0 ∷ 9 ∷ [])
+  pub f10-placed : Places bookEmpty (amounts 1 1 (1 ∷ 1 ∷ [])) short 0 (pos 0) (9 ∷ 9 ∷ []) (0 ∷ 9 ∷ [])
+  pub f11 : Places bookEmpty (amounts 1 1 (0 ∷ 0 ∷ [])) full 0 (pos 0) (9 ∷ 9 ∷ []) (0 ∷ 9 ∷ [])
   pub f1-printed : printed book1235 amounts5436 ≡ text5436
 
 pub known-examples : KnownExamples
-unfolding u16At u32At readOpening readCosts readRow readRows readBook rowAt problemOf readAmountsOf readAmounts pairs pairBytes
+unfolding u16At u32At readOpening readCosts readRow readRows readBook rowAt problemOf costsOf readAmountsOf readAmounts pairs pairBytes
 known-examples =
-    unfold checkPairs checkQuadruple inTurn checkMonge checkOrder tabulate flowOf sum times giveAll every first takeFrom ones onesIn in
+    unfold checkPairs checkQuadruple inTurn checkMonge checkOrder tabulate flowOf sum sumℤ times giveAll every first takeFrom ones onesIn in
     unfold foundOrder findOrder findBuffer foundToRun findAndRun findAndRunFlow digits line pairLines textOf printed in
     record {
       f1-found = (refl, refl);

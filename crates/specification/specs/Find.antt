@@ -8,7 +8,7 @@ use Rattle.transport.specs.Problem.{Problem}
 use Rattle.transport.specs.Greedy.{Pair}
 use Rattle.transport.specs.Finder.{find, size}
 use Rattle.specification.specs.Reply.{Reply, gives, refuses, refuseIf, _>>=_, afterwards, Outcome}
-use Rattle.specification.specs.Book.{readBook, problemOf}
+use Rattle.specification.specs.Book.{readBook, problemOf, costsOf}
 use Rattle.specification.specs.Amounts.{readAmounts}
 use Rattle.specification.specs.OrderFile.{orderFile}
 use Rattle.specification.specs.Run.{greedyOn, outcome, flowOf, flowTooShort}
@@ -49,7 +49,7 @@ foundToRun book amounts flow = do
 unfoldable pub findAndRun : List ℕ → List ℕ → List ℕ → Reply Outcome
 findAndRun book amounts flow = do
   S ← foundToRun book amounts flow
-  gives (outcome (problemOf book) (greedyOn book S amounts))
+  gives (outcome (problemOf book) (costsOf book) (greedyOn book S amounts))
 
 -- and the flow buffer afterwards
 unfoldable pub findAndRunFlow : List ℕ → List ℕ → List ℕ → List ℕ

@@ -2,18 +2,26 @@
 use mathlib.Core.List.{List, []}
 use Prim.Native.Nat.{ℕ}
 use lib.Dec.{ltb, eqb}
+use lib.IntN.{ℤ}
 use Rattle.transport.specs.Problem.{Problem, sum}
 use Rattle.transport.specs.Greedy.{Pair, State}
 use Rattle.transport.specs.Idle.{withIdle, greedyIdle}
+use Rattle.transport.specs.Signed.{idleCosts}
 use Rattle.specification.specs.Reply.{Reply, gives, refuseIf, _>>=_, afterwards, Outcome}
-use Rattle.specification.specs.Book.{bookCalls, problemOf}
+use Rattle.specification.specs.Costs.{costBase}
+use Rattle.specification.specs.Book.{bookVersion, bookCalls, problemOf, costsOf}
 use Rattle.specification.specs.Amounts.{readAmounts, lotAmount, callAmount}
 use Rattle.specification.specs.Run.{outcome, flowOf, flowTooShort}
 use Rattle.specification.specs.Find.{orderOr13}
 
--- "the enlarged book": "every lot is eligible for it at cost 0", "it is the last call"
+-- "the enlarged book": "every lot is eligible for it at cost 0", "it is the last call"; its problem has that cost, as all others, with the
+-- base added
 abbrev pub enlarged : List ℕ → Problem
-enlarged book = withIdle (problemOf book)
+enlarged book = withIdle (costBase (bookVersion book)) (problemOf book)
+
+-- the cost of each of its pairs, with its sign
+abbrev pub enlargedCosts : List ℕ → ℕ → ℕ → ℤ
+enlargedCosts book = idleCosts (problemOf book) (costsOf book)
 
 -- "the lots' total", and "the calls' total"
 abbrev pub lotsTotal : List ℕ → List ℕ → ℕ
@@ -40,7 +48,7 @@ foundToRunIdle book amounts flow = do
 unfoldable pub findAndRunIdle : List ℕ → List ℕ → List ℕ → Reply Outcome
 findAndRunIdle book amounts flow = do
   S ← foundToRunIdle book amounts flow
-  gives (outcome (problemOf book) (greedyIdleOn book S amounts))
+  gives (outcome (problemOf book) (costsOf book) (greedyIdleOn book S amounts))
 
 -- and the flow buffer afterwards, "the flow laid out by the book's own m"
 unfoldable pub findAndRunIdleFlow : List ℕ → List ℕ → List ℕ → List ℕ

@@ -3,6 +3,7 @@
 use mathlib.Core.List.{List, [], _∷_}
 use mathlib.Core.Bool.{Bool, true, false}
 use Prim.Native.Nat.{ℕ}
+use lib.IntN.{ℤ}
 use Rattle.specification.specs.declared.Refusal.{Refusal}
 use Rattle.specification.specs.declared.Refusal.the-variants as refusal
 use Rattle.specification.specs.declared.Counts.{Counts}
@@ -85,7 +86,7 @@ pub data Verdict : Type 0 where
 pub record Outcome : Type 0 where
   pub verdict : Verdict
   pub units : ℕ
-  pub cost : ℕ
+  pub cost : ℤ
 
 -- reading a book, or amounts with their book, replies n and m
 abbrev pub statedCounts : Counts → Reply Size

@@ -1,20 +1,26 @@
 -- What the change requests (document 02) promise beside the demands, as types. Above each part stands the sentence it is. A request
--- that changes what document 01 has is in the definitions and the demands themselves: request 1 in `Ran` and `Verdicts`.
+-- that changes what document 01 has is in the definitions and the demands themselves: request 1 in `Ran` and `Verdicts`, and request 4 in
+-- `heldCost` and `costsOf`, by which every cost and every least cost is stated.
 use mathlib.Core.Path.{_≡_}
-use mathlib.Core.Logic.{_↔_}
-use mathlib.Core.List.{List, []}
+use mathlib.Core.Logic.{_⊎_, _↔_}
+use mathlib.Core.Bool.{true}
+use mathlib.Core.List.{List, [], _∷_}
 use Prim.Native.Nat.{ℕ, _+_, _*_, _≤_, _<_}
 use lib.ListN.{length}
+use lib.IntN.{ℤ, pos, negℤ, _-ℤ_}
+use lib.Signed.{_≤ℤ_}
 use Rattle.transport.specs.Problem.{Eligible, units, totalCost, Allocation, MeetsCalls}
 use Rattle.transport.specs.Greedy.{Pair, pair}
+use Rattle.transport.specs.Signed.{signedCost, SignedFit, Lifts}
 use Rattle.specification.specs.declared.Quadruple.{Quadruple}
 use Rattle.specification.specs.declared.Quadruple.the-variants as quadruple
 use Rattle.specification.specs.Reply.{gives, refuses, Size, Outcome, full, covered, statedQuadruple}
-use Rattle.specification.specs.Bytes.{u32At}
-use Rattle.specification.specs.Book.{costStart, problemOf}
+use Rattle.specification.specs.Bytes.{u32At, bookMark, marked}
+use Rattle.specification.specs.Costs.{twosComplement, heldCost, costBase, Allows}
+use Rattle.specification.specs.Book.{rowCost, bookVersion, readBook, rowAt, costStart, problemOf, costsOf}
 use Rattle.specification.specs.Amounts.{readAmounts, lotAmount, callAmount}
 use Rattle.specification.specs.Check.{checkQuadruple}
-use Rattle.specification.specs.Idle.{enlarged, lotsTotal, callsTotal, findAndRunIdle}
+use Rattle.specification.specs.Idle.{enlarged, enlargedCosts, lotsTotal, callsTotal, findAndRunIdle}
 use Rattle.specification.specs.Demands.{Readable, RanIdle, Verdicts, GoodOrder}
 
 -- some allocation meets every real call
@@ -34,9 +40,9 @@ pub record IdleRun (book amounts flow : List ℕ) (o : Outcome) : Type 0 where
   pub allowed : Allowed book amounts flow
   -- by the order found for the enlarged book, of the real calls
   pub ran : RanIdle book amounts flow o
-  -- "no allocation that meets every real call costs less"
+  -- "no allocation that meets every real call costs less", "under either version" (request 4)
   pub least-cost : (x : ℕ → ℕ → ℕ) → MeetsCalls (problemOf book) (lotAmount amounts) (callAmount book amounts) x
-      → o .cost ≤ totalCost (problemOf book) x
+      → o .cost ≤ℤ signedCost (problemOf book) (costsOf book) x
   -- where no allocation meets them all, still "the unit count greatest" (demand 3)
   pub greatest-units : (x : ℕ → ℕ → ℕ) → Allocation (problemOf book) (lotAmount amounts) (callAmount book amounts) x
       → units (problemOf book) x ≤ o .units
@@ -65,10 +71,10 @@ pub record Request2 : Type 0 where
       → findAndRunIdle book amounts flow ≡ refuses 17 []
   -- "13 is then about the enlarged book": where none of the others applies, it is accepted if some order of the enlarged book is good (the
   -- limit in `GoodOrder` makes no difference, theorem (e)),
-  pub finds : (book amounts flow : List ℕ) → Allowed book amounts flow → (S : List Pair) → GoodOrder (enlarged book) S
+  pub finds : (book amounts flow : List ℕ) → Allowed book amounts flow → (S : List Pair) → GoodOrder (enlarged book) (enlargedCosts book) S
       → (o : Outcome) × (findAndRunIdle book amounts flow ≡ gives o)
   -- and refused by 13 if none is
-  pub or-13 : (book amounts flow : List ℕ) → Allowed book amounts flow → ((S : List Pair) → GoodOrder (enlarged book) S → ⊥)
+  pub or-13 : (book amounts flow : List ℕ) → Allowed book amounts flow → ((S : List Pair) → GoodOrder (enlarged book) (enlargedCosts book) S → ⊥)
       → findAndRunIdle book amounts flow ≡ refuses 13 []
 
 -- Request 3: the test of one quadruple, the pair (i, j) with lot k and call l. "any three eligible pairs (i, j), (i, l), (k, j) of a readable
@@ -80,12 +86,12 @@ pub record ThreeEligible (book : List ℕ) (i j k l : ℕ) : Type 0 where
   pub by-call : Eligible (problemOf book) k j
 
 -- a cost "where the book holds" it: the number in four of its bytes
-abbrev pub heldCost : List ℕ → ℕ → ℕ → ℕ
-heldCost book i j = u32At book (costStart book i j)
+abbrev pub costInBook : List ℕ → ℕ → ℕ → ℤ
+costInBook book i j = heldCost (bookVersion book) (u32At book (costStart book i j))
 
 -- "the cost sums are as the check asks": cost(i, j) + cost(k, l) ≤ cost(i, l) + cost(k, j) (document 01)
 abbrev pub SumsFit : List ℕ → ℕ → ℕ → ℕ → ℕ → Type 0
-SumsFit book i j k l = heldCost book i j + heldCost book k l ≤ heldCost book i l + heldCost book k j
+SumsFit book i j k l = SignedFit (costInBook book) i j k l
 
 -- "Its answer .. says .. whether (k, l) is eligible and the cost sums are as the check asks": each of the three, which exclude each other
 abbrev pub Told : List ℕ → ℕ → ℕ → ℕ → ℕ → Quadruple → Type 0
@@ -102,6 +108,35 @@ pub record Request3 : Type 0 where
       → statedQuadruple i j i l quadruple.Holds ≡ checkQuadruple (problemOf book) (pair i j) i l
   pub own-call : (book : List ℕ) (i j k : ℕ) → ThreeEligible book i j k j
       → statedQuadruple i j k j quadruple.Holds ≡ checkQuadruple (problemOf book) (pair i j) k j
-  -- the four bytes of an eligible pair's cost stand in the book, and hold the cost of its problem
+  -- the four bytes of an eligible pair's cost stand in the book, and hold its cost
   pub in-book : (book : List ℕ) → Readable book → (i j : ℕ) → Eligible (problemOf book) i j
-      → (costStart book i j + 4 ≤ length book) × (heldCost book i j ≡ problemOf book .cost i j)
+      → (costStart book i j + 4 ≤ length book) × (costInBook book i j ≡ costsOf book i j)
+
+-- Request 4: rebates from book version 2
+pub record Request4 : Type 0 where
+  -- "for books 3 means another version than 1 or 2"
+  pub refused-3 : (book : List ℕ) → 7 ≤ length book → marked bookMark book ≡ true
+      → (bookVersion book ≡ 1 → ⊥) → (bookVersion book ≡ 2 → ⊥) → readBook book ≡ refuses 3 []
+  pub two-versions : (book : List ℕ) → Readable book → (bookVersion book ≡ 1) ⊎ (bookVersion book ≡ 2)
+  -- "In version 2 a cost is signed, two's complement, from -1,000,000 to 1,000,000"
+  pub version-2 : (book : List ℕ) → Readable book → bookVersion book ≡ 2 → (i j : ℕ) → Eligible (problemOf book) i j
+      → (costsOf book i j ≡ twosComplement (rowCost (rowAt book i) j))
+      × ((negℤ (pos 1000000) ≤ℤ costsOf book i j) × (costsOf book i j ≤ℤ pos 1000000))
+  -- "Version 1 books read as they always have": a cost is the number that the book holds, from 0 to 1,000,000
+  pub version-1 : (book : List ℕ) → Readable book → bookVersion book ≡ 1 → (i j : ℕ) → Eligible (problemOf book) i j
+      → (costsOf book i j ≡ pos (rowCost (rowAt book i) j)) × (problemOf book .cost i j ≡ rowCost (rowAt book i) j)
+      × (rowCost (rowAt book i) j ≤ 1000000)
+  -- "and 7 is given outside that range": its lot and call have such a cost
+  pub seven : (book vs : List ℕ) → readBook book ≡ refuses 7 vs
+      → (i : ℕ) × (j : ℕ) × (vs ≡ i ∷ j ∷ []) × (Allows (bookVersion book) (heldCost (bookVersion book) (rowCost (rowAt book i) j)) → ⊥)
+  -- "by one argument over both": under either version the problem's costs are the signed ones with the base added,
+  pub lifts : (book : List ℕ) → Readable book → Lifts (costBase (bookVersion book)) (problemOf book) (costsOf book)
+  -- so the cost of an allocation is the problem's less the base for each unit,
+  pub cost-is : (book : List ℕ) → Readable book → (a b : ℕ → ℕ) (x : ℕ → ℕ → ℕ) → Allocation (problemOf book) a b x
+      → signedCost (problemOf book) (costsOf book) x
+      ≡ pos (totalCost (problemOf book) x) -ℤ pos (costBase (bookVersion book) * units (problemOf book) x)
+  -- and of allocations with as many units the one that costs less by the problem costs less
+  pub same-order : (book : List ℕ) → Readable book → (a b a′ b′ : ℕ → ℕ) (x y : ℕ → ℕ → ℕ)
+      → Allocation (problemOf book) a b x → Allocation (problemOf book) a′ b′ y → units (problemOf book) x ≡ units (problemOf book) y
+      → (signedCost (problemOf book) (costsOf book) x ≤ℤ signedCost (problemOf book) (costsOf book) y)
+      ↔ (totalCost (problemOf book) x ≤ totalCost (problemOf book) y)

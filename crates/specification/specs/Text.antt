@@ -4,6 +4,7 @@ use mathlib.Core.Bool.{true, false, cond}
 use Prim.Native.Nat.{ℕ, zero, suc, _+_, _*_, _/_, _%_}
 use lib.ListN.{take, replicate, getD}
 use lib.Dec.{ltb, eqb}
+use lib.IntN.{ℤ, pos, negsuc}
 use Rattle.transport.specs.Problem.{Problem}
 use Rattle.specification.specs.Reply.{Reply, gives, refuses, Verdict, full, covered, short, Outcome}
 use Rattle.specification.specs.Book.{largestBook, problemOf}
@@ -18,6 +19,11 @@ digits (suc most) n = elim (ltb n 10) [ true ↦ (48 + n) ∷ [] | false ↦ dig
 -- "Decimal": no number printed has more than 17 digits
 abbrev pub decimal : ℕ → List ℕ
 decimal n = digits 20 n
+
+-- "a cost below zero prints with a leading minus"
+abbrev pub decimalℤ : ℤ → List ℕ
+decimalℤ (pos n) = decimal n
+decimalℤ (negsuc n) = 45 ∷ decimal (suc n)
 
 -- "one space between fields, a newline after each line": a first field, and the rest
 unfoldable pub line : List ℕ → List (List ℕ) → List ℕ
@@ -48,7 +54,7 @@ pairLines m flow (suc n) = pairLines m flow n ++ pairLine m flow n
 unfoldable pub textOf : Reply Outcome → Problem → List ℕ → List ℕ
 textOf (refuses k vs) P flow = line refusedWord (decimal k ∷ [])
 textOf (gives o) P flow =
-    line (verdictWord (o .verdict)) (decimal (o .units) ∷ decimal (o .cost) ∷ []) ++ pairLines (P .calls) flow (P .lots * P .calls)
+    line (verdictWord (o .verdict)) (decimal (o .units) ∷ decimalℤ (o .cost) ∷ []) ++ pairLines (P .calls) flow (P .lots * P .calls)
 
 -- how much it reads of a book and of amounts: "at most 4,232 and 264 bytes of each", one more than the largest file has
 abbrev pub bookMost : ℕ

@@ -69,8 +69,8 @@ module _ (k m n : ℕ) where
     λ h. record { le = le-of y z (added-says y k m e) (added-says z k n f) h },
   )
 
--- a difference of two numbers below n is above -n and below n
-pub mag-difference : (a b n : ℕ) → a < n → b < n → mag (pos a -ℤ pos b) < n
+-- a difference of two numbers that are less than n apart is above -n and below n
+pub mag-difference : (a b n : ℕ) → a < b + n → b < a + n → mag (pos a -ℤ pos b) < n
 mag-difference a zero n h g = omega arith
 mag-difference a (suc b) n h g = by-cases (decLt a (suc b))
     (λ l. rw (lt-ltb a (suc b) l) (omega arith))
