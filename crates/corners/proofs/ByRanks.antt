@@ -18,7 +18,8 @@ use Rattle.transport.proofs.Laws.Sets.{Agree}
 use Rattle.transport.proofs.Finder.Free.{Marks, next-marked, next-unmarked}
 use Rattle.transport.proofs.Finder.Ranks.{Renames, rank-apart, eqb-ranks, Ranked}
 use Rattle.transport.proofs.Finder.Corners.{Ends, LotEnds, CallEnds, ends-by-rank, free-is-corners}
-use Rattle.specification.specs.Book.{bit, costLimit}
+use Rattle.specification.specs.Costs.{costLimit}
+use Rattle.specification.specs.Book.{bit}
 use Rattle.book.specs.Table.{entry}
 use Rattle.words.specs.Words.{LowestIn, HighestIn}
 use Rattle.ranks.specs.Ranked.{fitsBy, byRanks, Ranking}

@@ -19,7 +19,8 @@ use Rattle.transport.specs.Problem.{Eligible}
 use Rattle.transport.proofs.Laws.Tests.{and-says, counted-of, counted-le}
 use Rattle.transport.proofs.Finder.Same.{Same}
 use Rattle.specification.specs.Bytes.{u32At}
-use Rattle.specification.specs.Book.{costLimit, bit, rowWord, rowSize, rowCost, bookLots, bookCalls, rowAt, rowStart, problemOf}
+use Rattle.specification.specs.Costs.{costLimit}
+use Rattle.specification.specs.Book.{bit, rowWord, rowSize, rowCost, bookLots, bookCalls, rowAt, rowStart, problemOf}
 use Rattle.specification.proofs.Numbers.{u32-drop}
 use Rattle.specification.proofs.Rows.{RowRead}
 use Rattle.specification.proofs.Books.{BookRead, book-length}

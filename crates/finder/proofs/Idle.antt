@@ -15,7 +15,8 @@ use Rattle.transport.proofs.Laws.Tests.{below-suc, eqb-true, eqb-false}
 use Rattle.transport.proofs.Laws.Sums.{put-is}
 use Rattle.transport.proofs.Laws.Sets.{count-le}
 use Rattle.transport.proofs.Finder.Same.{Same}
-use Rattle.specification.specs.Book.{costLimit, problemOf}
+use Rattle.specification.specs.Costs.{costLimit}
+use Rattle.specification.specs.Book.{problemOf}
 use Rattle.specification.proofs.Books.{problem-within, size-within}
 use Rattle.book.specs.Table.{entry}
 use Rattle.book.proofs.Readable.{Read}

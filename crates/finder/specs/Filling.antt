@@ -4,7 +4,8 @@ use mathlib.Core.Bool.{true, cond}
 use mathlib.Core.List.{List}
 use Prim.Native.Nat.{ℕ, suc, _+_, _*_, _-_, _≤_, _<_}
 use lib.ListN.{length}
-use Rattle.specification.specs.Book.{costLimit, bit, rowWord, rowCost, rowAt, rowStart}
+use Rattle.specification.specs.Costs.{costLimit}
+use Rattle.specification.specs.Book.{bit, rowWord, rowCost, rowAt, rowStart}
 use Rattle.book.specs.Pairs.{readable}
 use Rattle.book.specs.Table.{entry}
 use Rattle.slacks.specs.Slacks.{Capped}

@@ -9,7 +9,7 @@ use lib.Dec.{T, T-not, ltb, eqb, ltb→lt}
 use Rattle.transport.proofs.Laws.Tests.{T-true, and-says}
 use Rattle.transport.specs.Problem.{Eligible}
 use Rattle.transport.proofs.Finder.Gaps.{Bounded}
-use Rattle.specification.specs.Book.{costLimit}
+use Rattle.specification.specs.Costs.{costLimit}
 use Rattle.book.specs.Table.{entry, admitsBy, problemBy, Tabled}
 
 -- a pair that the table admits is among its lots and calls and has an offset

@@ -16,7 +16,8 @@ use Rattle.transport.specs.Problem.{Problem}
 use Rattle.transport.specs.Greedy.{pair}
 use Rattle.transport.proofs.Laws.Tests.{eqb-true, eqb-false}
 use Rattle.transport.proofs.Finder.Backward.{callGap, lowered}
-use Rattle.specification.specs.Book.{costLimit, bit}
+use Rattle.specification.specs.Costs.{costLimit}
+use Rattle.specification.specs.Book.{bit}
 use Rattle.book.specs.Table.{entry, problemBy, Tabled}
 use Rattle.words.proofs.Sets.{bit-none, bit-or, bit-and, bit-single}
 use Rattle.order.specs.Gaps.{tableGap, Capped, GapLowered, Lowered}

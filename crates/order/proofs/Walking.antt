@@ -25,7 +25,8 @@ use Rattle.transport.proofs.Finder.Gaps.{least-at-same}
 use Rattle.transport.proofs.Finder.Exchanged.{exchanged, across}
 use Rattle.transport.proofs.Finder.Backward.{backward, callGap, lowered, leastFor, in-play-stands, verdict-is-free}
 use Rattle.specification.specs.Bytes.{u32At}
-use Rattle.specification.specs.Book.{costLimit, bit}
+use Rattle.specification.specs.Costs.{costLimit}
+use Rattle.specification.specs.Book.{bit}
 use Rattle.book.specs.Table.{entry, problemBy}
 use Rattle.words.proofs.Sets.{bit-none, bit-or, bit-and, bit-single, bit-all, within-exactly}
 use Rattle.order.specs.Places.{orderPair, rest}

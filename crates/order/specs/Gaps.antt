@@ -6,7 +6,8 @@ use Prim.Native.Nat.{ℕ, suc, _+_, _*_, _-_, _^_, _≤_, _<_, min}
 use lib.Dec.{ltb, leb}
 use lib.ListN.{length, getD, set}
 use Rattle.specification.specs.Bytes.{u32At}
-use Rattle.specification.specs.Book.{costLimit, bit}
+use Rattle.specification.specs.Costs.{costLimit}
+use Rattle.specification.specs.Book.{bit}
 use Rattle.book.specs.Table.{entry, Tabled}
 
 -- the highest gap: of a cost at the limit over one of 0

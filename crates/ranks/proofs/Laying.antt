@@ -17,7 +17,7 @@ use Rattle.transport.proofs.Laws.Tests.{T-true, below-suc, counted-le, counted-
 use Rattle.transport.proofs.Laws.Sums.{sum-le}
 use Rattle.transport.proofs.Finder.Ranks.{Renames, monge-of-neighbours}
 use Rattle.transport.proofs.Finder.Same.{Same}
-use Rattle.specification.specs.Book.{costLimit}
+use Rattle.specification.specs.Costs.{costLimit}
 use Rattle.book.specs.Table.{entry}
 use Rattle.slacks.specs.Slacks.{remains, bySlacks, Capped, Slacks}
 use Rattle.ranks.specs.Ranked.{byRanks, MongeBy, Ranking}

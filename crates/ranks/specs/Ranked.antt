@@ -8,7 +8,7 @@ use lib.Dec.{leb, ltb}
 use lib.ListN.{getD}
 use Rattle.transport.specs.Problem.{Problem}
 use Rattle.transport.proofs.Finder.Ranks.{Renames}
-use Rattle.specification.specs.Book.{costLimit}
+use Rattle.specification.specs.Costs.{costLimit}
 use Rattle.book.specs.Table.{entry}
 use Rattle.slacks.specs.Slacks.{Capped}
 

@@ -10,7 +10,7 @@ use lib.Dec.{T, eqb, T-not, not-T, eqb→eq}
 use lib.ListN.{length, getD, set, replicate, getD-replicate, length-replicate, List·getD-eq-default}
 use lib.Seq.{getD-set-same, getD-set-other}
 use Rattle.transport.proofs.Laws.Tests.{positive}
-use Rattle.specification.specs.Book.{costLimit}
+use Rattle.specification.specs.Costs.{costLimit}
 use Rattle.book.specs.Table.{entry}
 use Rattle.slacks.specs.Slacks.{remains, bySlacks, Capped}
 

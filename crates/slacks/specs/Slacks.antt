@@ -7,7 +7,7 @@ use Prim.Native.Nat.{ℕ, suc, _-_, _≤_, _<_}
 use lib.Dec.{eqb, ltb}
 use lib.ListN.{length, getD}
 use Rattle.transport.specs.Problem.{Problem}
-use Rattle.specification.specs.Book.{costLimit}
+use Rattle.specification.specs.Costs.{costLimit}
 use Rattle.book.specs.Table.{entry}
 
 -- (i, j) has slack

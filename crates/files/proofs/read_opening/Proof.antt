@@ -41,7 +41,7 @@ returns-5 c =
       eq-eqb _ _ (l .if2 .left),
       eq-eqb _ _ (m .if3 .left),
       eq-eqb _ _ (n .if4 .left),
-      ne-eqb _ _ (λ e. c .if5 .taken (c .before .u16-at .ensures ∙ e)),
+      sym (c .before .other-version .ensures) ∙ c .if5 .taken,
     )
 
 returns-6 : tie.Need-returns-6
@@ -56,7 +56,7 @@ returns-6 c =
       eq-eqb _ _ (l .if2 .left),
       eq-eqb _ _ (m .if3 .left),
       eq-eqb _ _ (n .if4 .left),
-      eq-eqb _ _ (sym (c .before .u16-at .ensures) ∙ c .if5 .left),
+      sym (c .before .other-version .ensures) ∙ c .if5 .left,
     )
 
 pub read-opening-spec : {M : Type 1} → statement M

@@ -10,7 +10,8 @@ use native.Mathlib.Omega.{arith}
 use lib.Dec.{ltb}
 use lib.ListN.{length}
 use Rattle.specification.specs.Bytes.{u32At}
-use Rattle.specification.specs.Book.{costLimit, bit, rowWord, rowCost, readCosts}
+use Rattle.specification.specs.Costs.{costLimit}
+use Rattle.specification.specs.Book.{bit, rowWord, rowCost, readCosts}
 use Rattle.book.specs.Pairs.{onesBelow}
 use Rattle.book.proofs.Bits.{ones-below-none, ones-below-set, ones-below-unset, ones-below-all}
 use Rattle.book.proofs.Rows.{costs-step, costs-end}

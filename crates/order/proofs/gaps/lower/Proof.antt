@@ -3,7 +3,7 @@ use mathlib.Core.Path.{_≡_}
 use Prim.Native.Nat.{suc, _+_, _*_, _-_}
 use native.Mathlib.Omega.{arith}
 use borrow.Author.Needs.{needs}
-use Rattle.specification.specs.Book.{costLimit}
+use Rattle.specification.specs.Costs.{costLimit}
 use Rattle.order.specs.Gaps.{gapOver}
 use Rattle.order.proofs.Lowering.{lesser-is}
 use Rattle.order.proofs.gaps.lower.Statement.{statement}

@@ -5,7 +5,8 @@ use Prim.Native.Nat.{ℕ, _+_, _*_, _≤_, _<_}
 use native.Mathlib.Omega.{arith}
 use borrow.Author.Needs.{needs}
 use borrow.Author.Tests.{lt-ltb}
-use Rattle.specification.specs.Book.{costLimit, bit}
+use Rattle.specification.specs.Costs.{costLimit}
+use Rattle.specification.specs.Book.{bit}
 use Rattle.specification.specs.Bytes.{u32At}
 use Rattle.book.specs.Table.{entry}
 use Rattle.words.proofs.Sets.{bit-and}
