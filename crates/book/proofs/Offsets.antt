@@ -1,5 +1,5 @@
 -- What the table of offsets says of the book's problem. An entry is above 0 exactly where the book is readable and the pair eligible, and
--- the number at that byte is then the pair's cost.
+-- the pair's cost is then held at that byte.
 use mathlib.Core.Path.{_≡_, refl, ap₂, _∙_}
 use mathlib.Core.Bool.{Bool, true, false}
 use mathlib.Core.List.{List}
@@ -8,7 +8,7 @@ use native.Mathlib.Omega.{arith}
 use borrow.Author.Tests.{lt-ltb, le-ltb}
 use lib.Dec.{ltb}
 use Rattle.specification.specs.Bytes.{u32At}
-use Rattle.specification.specs.Book.{costStart, problemOf}
+use Rattle.specification.specs.Book.{rowCost, rowAt, costStart, problemOf}
 use Rattle.specification.proofs.Flows.{tabulate-at}
 use Rattle.specification.proofs.Starts.{cost-held}
 use Rattle.book.specs.Pairs.{readable, hasCost, costOffset, offsetTable}
@@ -33,5 +33,5 @@ module _ (book : List ℕ) (i j : ℕ) (hi : i < 32) (hj : j < 32) where
   entry-admits e = entry-stands ∙ rw e
 
   -- and then the cost stands there
-  pub entry-cost : hasCost book i j ≡ true → u32At book (entry (offsetTable book) i j) ≡ problemOf book .cost i j
+  pub entry-cost : hasCost book i j ≡ true → u32At book (entry (offsetTable book) i j) ≡ rowCost (rowAt book i) j
   entry-cost e = rw (entry-is, e) (cost-held book i j)

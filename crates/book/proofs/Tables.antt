@@ -1,11 +1,12 @@
--- The table of offsets of a readable book. From each entry on the book has four bytes, and the number there is at most the limit
+-- The table of offsets of a readable book. From each entry on the book has four bytes, and the cost there is within the range
 -- (`offsets-tabled`); the costs of a lot with all calls stand side by side (`offsets-packed`). The problem that the table states has the
--- book's own eligible pairs and their costs (`problem-same`).
+-- book's own eligible pairs and, but for one number that is added to all, their costs (`problem-same`).
 use mathlib.Core.Path.{_≡_, refl, sym, ap, _∙_, subst}
 use mathlib.Core.Logic.{by-cases}
 use mathlib.Core.Bool.{Bool, true, false, cond, not}
 use mathlib.Core.List.{List}
 use Prim.Native.Nat.{ℕ, zero, suc, _+_, _*_, _-_, _/_, _%_, _≤_, _<_}
+use native.Mathlib.Nat.{add-zero}
 use native.Mathlib.Decide.{ℕ-discrete}
 use native.Mathlib.Omega.{arith}
 use borrow.Author.Tests.{lt-ltb, ne-eqb}
@@ -15,14 +16,15 @@ use Rattle.transport.specs.Problem.{Eligible}
 use Rattle.transport.proofs.Laws.Tests.{T-true, counted-of, counted-says}
 use Rattle.transport.proofs.Finder.Same.{Same}
 use Rattle.specification.specs.Bytes.{u32At}
-use Rattle.specification.specs.Costs.{costLimit}
-use Rattle.specification.specs.Book.{bit, rowWord, bookLots, rowAt, rowStart, problemOf}
+use Rattle.specification.specs.Costs.{costLimit, costTop, costBase, liftedCost}
+use Rattle.specification.specs.Book.{bit, rowWord, rowCost, bookVersion, bookLots, rowAt, rowStart, problemOf}
+use Rattle.specification.proofs.Costs.{base-within, raised-is}
 use Rattle.specification.proofs.Numbers.{u32-drop}
 use Rattle.specification.proofs.Flows.{tabulate-at}
-use Rattle.specification.proofs.Books.{admitted-inside, cost-within}
+use Rattle.specification.proofs.Books.{admitted-inside, cost-allowed, lifted-within}
 use Rattle.specification.proofs.Starts.{row-is, row-inside, cost-inside}
 use Rattle.book.specs.Pairs.{hasCost, onesBelow, costOffset, offsetTable}
-use Rattle.book.specs.Table.{entry, admitsBy, problemBy, Tabled, Packed, Worded}
+use Rattle.book.specs.Table.{entry, raisedAt, admitsBy, problemBy, Tabled, Packed, Worded}
 use Rattle.book.proofs.Bits.{ones-below-none, ones-below-full, bit-of-full}
 use Rattle.book.proofs.Readable.{Read}
 use Rattle.book.proofs.Offsets.{entry-is, entry-admits, entry-cost}
@@ -48,10 +50,18 @@ module _ (book : List ℕ) {n m : ℕ} (read : Read book n m) where
   unfolding problemOf
   call-few j h = omega (arith, read .known .calls-within)
 
+  -- what the base lacks of the limit
+  pub lacking : ℕ
+  lacking = costLimit - costBase (bookVersion book)
+
   -- at the offset of an eligible pair the book holds its cost
-  pub cost-at : (i j : ℕ) → Eligible (problemOf book) i j → u32At book (entry (offsetTable book) i j) ≡ problemOf book .cost i j
+  pub cost-at : (i j : ℕ) → Eligible (problemOf book) i j
+      → raisedAt book (entry (offsetTable book) i j) ≡ problemOf book .cost i j + lacking
+  unfolding problemOf lacking
   cost-at i j e =
-      entry-cost book i j (lot-few i (e .0)) (call-few j (e .1)) (rw (read .is-readable) (T-true (problemOf book .admits i j) (e .2)))
+      let has : hasCost book i j ≡ true = rw (read .is-readable) (T-true (problemOf book .admits i j) (e .2)) in
+      ap (liftedCost costLimit) (entry-cost book i j (lot-few i (e .0)) (call-few j (e .1)) has)
+      ∙ raised-is (bookVersion book) (rowCost (rowAt book i) j) (cost-allowed (read .known) i j e)
 
   -- a pair with the offset 0 is not eligible
   pub not-eligible-at : (i j : ℕ) → i < 32 → j < 32 → entry (offsetTable book) i j ≡ 0 → problemOf book .admits i j ≡ false
@@ -62,17 +72,23 @@ module _ (book : List ℕ) {n m : ℕ} (read : Read book n m) where
   offset-inside i j true e = rw e (cost-inside (read .known) i j (admitted-inside book i j (rw (rw (read .is-readable) at e) tt)))
 
   pub offsets-tabled : Tabled book (offsetTable book)
+  unfolding lacking
   offsets-tabled = record { within = within; cheap = cheap }
     where
       within : (k : ℕ) → k < 1024 → getD (offsetTable book) k 0 + 4 ≤ length book
       within k h =
           rw (tabulate-at 1024 (λ o. costOffset book (o / 32) (o % 32)) k h) (offset-inside (k / 32) (k % 32) _ refl)
 
-      cheap : (k : ℕ) → k < 1024 → (getD (offsetTable book) k 0 ≡ 0 → ⊥) → u32At book (getD (offsetTable book) k 0) ≤ costLimit
+      cheap : (k : ℕ) → k < 1024 → (getD (offsetTable book) k 0 ≡ 0 → ⊥) → raisedAt book (getD (offsetTable book) k 0) ≤ costTop
       cheap k h stands =
           let at : k ≡ 32 * (k / 32) + k % 32 = omega arith in
           let e = eligible-at (k / 32) (k % 32) (omega arith) (omega arith) (λ z. stands (rw at z)) in
-          rw at (omega (arith, cost-at (k / 32) (k % 32) e, cost-within (read .known) (k / 32) (k % 32) e))
+          rw at (omega (
+            arith,
+            cost-at (k / 32) (k % 32) e,
+            lifted-within (read .known) (k / 32) (k % 32) e,
+            base-within (bookVersion book),
+          ))
 
   -- the offsets of a lot's costs go by its word: where the last of m is that of a cost with m - 1 before it, all m bits are set
   pub offsets-packed : 0 < m → m ≤ 32 → Packed (offsetTable book) m
@@ -146,7 +162,8 @@ module _ (book : List ℕ) {n m : ℕ} (read : Read book n m) where
 
   pub problem-same : Same (problemBy book (offsetTable book) n m) (problemOf book)
   unfolding problemOf
-  problem-same = record { lots = read .lots-is; calls = read .calls-is; admits = admits; cost = cost }
+  problem-same =
+      record { lots = read .lots-is; calls = read .calls-is; admits = admits; more = 0; more′ = lacking; cost = cost }
     where
       lot-in : (i : ℕ) → i < n → i < 32
       lot-in i h = omega (arith, read .lots-is, read .known .lots-within)
@@ -159,6 +176,7 @@ module _ (book : List ℕ) {n m : ℕ} (read : Read book n m) where
           (not-zero (entry (offsetTable book) i j) ∙ entry-admits book i j (lot-in i hi) (call-in j hj) (read .is-readable))
 
       cost : (i j : ℕ) → (i < n) × (j < m) × T (admitsBy (offsetTable book) n m i j)
-          → u32At book (entry (offsetTable book) i j) ≡ problemOf book .cost i j
+          → raisedAt book (entry (offsetTable book) i j) + 0 ≡ problemOf book .cost i j + lacking
       cost i j (hi, hj, t) =
-          cost-at i j (omega (arith, read .lots-is), omega (arith, read .calls-is), subst T (admits i j hi hj) t)
+          let e : Eligible (problemOf book) i j = (omega (arith, read .lots-is), omega (arith, read .calls-is), subst T (admits i j hi hj) t) in
+          add-zero (raisedAt book (entry (offsetTable book) i j)) ∙ cost-at i j e

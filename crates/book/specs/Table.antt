@@ -8,7 +8,7 @@ use lib.Dec.{ltb, eqb}
 use lib.ListN.{length, getD}
 use Rattle.transport.specs.Problem.{Problem}
 use Rattle.specification.specs.Bytes.{u32At}
-use Rattle.specification.specs.Costs.{costLimit}
+use Rattle.specification.specs.Costs.{costLimit, costTop, liftedCost}
 use Rattle.specification.specs.Book.{bit}
 use Rattle.book.specs.Pairs.{onesBelow}
 
@@ -20,19 +20,24 @@ entry xs i j = getD xs (32 * i + j) 0
 abbrev pub admitsBy : List ℕ → ℕ → ℕ → ℕ → ℕ → Bool
 admitsBy table n m i j = ltb i n && (ltb j m && not (eqb (entry table i j) 0))
 
+-- the cost that the book holds at a byte, with the limit added: in either version a natural number, and the check's condition has two costs on
+-- either side
+abbrev pub raisedAt : List ℕ → ℕ → ℕ
+raisedAt book at = liftedCost costLimit (u32At book at)
+
 -- n lots and m calls, the eligible pairs by the table, and the costs where it says
 abbrev pub problemBy : List ℕ → List ℕ → ℕ → ℕ → Problem
 problemBy book table n m = record {
   lots = n;
   calls = m;
   admits = admitsBy table n m;
-  cost = λ i j. u32At book (entry table i j);
+  cost = λ i j. raisedAt book (entry table i j);
 }
 
--- what the table is to be: from each entry on the book has four bytes, and the costs are within the limit
+-- what the table is to be: from each entry on the book has four bytes, and the costs are within the range
 pub record Tabled (book table : List ℕ) : Type 0 where
   pub within : (k : ℕ) → k < 1024 → getD table k 0 + 4 ≤ length book
-  pub cheap : (k : ℕ) → k < 1024 → (getD table k 0 ≡ 0 → ⊥) → u32At book (getD table k 0) ≤ costLimit
+  pub cheap : (k : ℕ) → k < 1024 → (getD table k 0 ≡ 0 → ⊥) → raisedAt book (getD table k 0) ≤ costTop
 
 -- a lot whose first and last costs of m lie as far apart as m costs side by side has them side by side
 pub record Packed (table : List ℕ) (m : ℕ) : Type 0 where

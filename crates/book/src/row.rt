@@ -31,13 +31,12 @@ fn first_outside(row: &[u8], version: u16, lot: Lot, calls: usize) -> Step
     requires { ⌜ rowSize (now row) ≤ length (now row) ⌝ }
     ensures { λ r. ⌜ statedStep r ≡ readCosts (now (row .entry)) version (lot .0) calls 0 ⌝ }
 {
-    let base = super::signed::cost_base(version);
     let word = files::u32_at(row, 0);
     let i = lot.0;
     let mut at = 4;
     for j in 0..calls {
         if super::word::is_set(word, j) {
-            if COST_LIMIT + base < super::signed::lifted(super::inner::cost_at(row, at), base) {
+            if super::signed::outside(super::inner::cost_at(row, at), version) {
                 return Step::Refused(Refusal::CostTooHigh(Lot(i), Call(j)));
             }
             at += 4;

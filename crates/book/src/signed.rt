@@ -23,6 +23,14 @@ pub fn lifted(held: u32, base: u32) -> u32
     std::num::wrapping_add_u32(held, base)
 }
 
+// Whether a cost is outside the range of a version.
+pub fn outside(held: u32, version: u16) -> bool
+    ensures { λ r. ⌜ r ≡ costOutside version held ⌝ }
+{
+    let base = cost_base(version);
+    COST_LIMIT + base < lifted(held, base)
+}
+
 // A difference with its sign.
 pub fn difference(a: u64, b: u64) -> i64
     requires { ⌜ (a < 9223372036854775808) × (b < 9223372036854775808) ⌝ }

@@ -38,3 +38,8 @@ u16-take k s at h =
 pub u32-take : (k : ℕ) (s : List ℕ) (at : ℕ) → at + 4 ≤ k → u32At (take k s) at ≡ u32At s at
 unfolding u32At
 u32-take k s at h = omega (arith, u16-take k s at (omega arith), u16-take k s (at + 2) (omega arith))
+
+-- a number of four bytes is one of 32 bits
+pub u32-below : (s : List ℕ) → ((i : ℕ) → byteAt s i < 256) → (at : ℕ) → u32At s at < 4294967296
+unfolding u32At u16At
+u32-below s bytes at = omega (arith, bytes at, bytes (at + 1), bytes (at + 2), bytes (at + 2 + 1))

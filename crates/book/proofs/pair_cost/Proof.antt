@@ -1,14 +1,19 @@
 -- `book::pair_cost` meets its contract: at each `return` the tests that led there say which case of `pairCost` holds.
-use borrow.Author.Needs.{needs}
+use borrow.Author.Needs.{needs, sfits-of}
 use borrow.Author.Tests.{lt-ltb, le-ltb}
-use mathlib.Core.Path.{_≡_, sym, ap, _∙_}
+use mathlib.Core.Path.{_≡_, sym, ap, ap₂, _∙_}
 use mathlib.Core.Bool.{Bool}
 use mathlib.Core.List.{List}
 use Prim.Native.Nat.{ℕ, _≤_, _<_}
 use native.Mathlib.Omega.{arith}
 use lib.ListN.{length}
+use mir.Syntax.{w64}
+use mir.Val.{ofZ, toZ}
+use mir.Facts.{toZ-ofZ}
 use Rattle.specification.specs.Reply.{gives, statedCounts}
-use Rattle.specification.specs.Book.{bookLots, readBook, problemOf}
+use Rattle.specification.specs.Costs.{heldCost}
+use Rattle.specification.specs.Book.{rowCost, bookLots, readBook, rowAt, problemOf, costsOf, costs}
+use Rattle.specification.proofs.Books.{admitted-inside, cost-allowed}
 use Rattle.specification.proofs.Starts.{row-inside}
 use Rattle.book.proofs.Readable.{Read, counts-are}
 use Rattle.book.proofs.Rows.{part-is-row}
@@ -76,19 +81,43 @@ returns-3 c = simp (gave (c .before .before), lt-ltb _ _ (c .before .if1 .left),
 row-at-requires : tie.Need-row-at-requires
 row-at-requires c κs = (read (told c) .is-readable, lot-in c)
 
+-- the 32 bits that are read are the pair's
+module _ (c : tie.After-version-of) where
+  abbrev set : tie.After-is-set
+  set = c .before .before .before
+
+  abbrev inside : tie.Else2
+  inside = set .before .before .before .before
+
+  bits-are : c .before .cost-in .result
+      ≡ rowCost (rowAt (book (told inside)) (start (told inside) .args .lot .0)) (start (told inside) .args .call .0)
+  bits-are = rw (part-is-row _ _ (set .before .before .before .row-at .ensures)) at (c .before .cost-in .ensures)
+
+held-cost-requires : tie.Need-held-cost-requires
+held-cost-requires c κs =
+    let l = told (inside c) in
+    let admitted = admits-is (set c) (c .before .before .if3 .taken) in
+    rw (c .version-of .ensures, bits-are c)
+    (cost-allowed (read l .known) _ _ (admitted-inside (book l) (start l .args .lot .0) (start l .args .call .0) (rw admitted tt)))
+
+-- so what is told is the pair's cost
+cost-is : (c : tie.After-held-cost) → (let l = told (inside (c .before)) in
+    toZ w64 (ofZ w64 (c .held-cost .result)) ≡ costsOf (book l) (start l .args .lot .0) (start l .args .call .0))
+unfolding costsOf
+cost-is c =
+    let is : c .held-cost .result ≡ heldCost (c .before .version-of .result) (c .before .before .cost-in .result) = c .held-cost .ensures in
+    toZ-ofZ (sfits-of (c .held-cost .ok)) ∙ is ∙ ap₂ heldCost (c .before .version-of .ensures) (bits-are (c .before))
+
 returns-4 : tie.Need-returns-4
-unfolding problemOf
 returns-4 c =
-    let s = c .before .before in
-    let a = s .before .before .before in
-    let within = a .before in
+    let within = inside (c .before) in
     simp (
       gave (told within),
       lt-ltb _ _ (within .before .if1 .left),
       lt-ltb _ _ (within .if2 .left),
-      admits-is s (c .before .if3 .taken),
-      rw (part-is-row _ _ (a .row-at .ensures)) at (c .cost-in .ensures),
+      admits-is (set (c .before)) (c .before .before .before .if3 .taken),
     )
+    (ap (λ z. gives (costs z)) (cost-is c))
 
 returns-5 : tie.Need-returns-5
 returns-5 c =
@@ -118,5 +147,7 @@ pair-cost-spec =
     (λ c κs. search needs)
     (λ c κs. search needs)
     (λ c κs. search needs)
+    (λ c κs. search needs)
+    held-cost-requires
     returns-4
     returns-5)

@@ -7,7 +7,7 @@ use Prim.Native.Nat.{ℕ, _≤_}
 use lib.ListN.{length, drop}
 use Rattle.specification.specs.Reply.{gives, _>>=_}
 use Rattle.specification.specs.Bytes.{bookMark, readOpening}
-use Rattle.specification.specs.Book.{readRows, bookLots, bookCalls, countOutside, readBook}
+use Rattle.specification.specs.Book.{readRows, bookVersion, bookLots, bookCalls, countOutside, readBook}
 use Rattle.specification.proofs.Replies.{said-of-given}
 use Rattle.specification.proofs.Rows.{opening-says}
 use Rattle.files.specs.Files.{statedStep}
@@ -19,7 +19,7 @@ module _ (c : tie.After-enum-told) where
   abbrev book : List ℕ
   book = c .before .before .before .before .before .args .book .now
 
-  opens : readOpening bookMark book ≡ gives tt
+  opens : readOpening bookMark 2 book ≡ gives tt
   opens = sym (c .before .before .read-opening .ensures) ∙ ap statedStep (c .enum-told .given .1)
 
 module _ (c : tie.After-is-outside) where
@@ -37,7 +37,7 @@ module _ (c : tie.After-is-outside2) where
   calls-outside e = rw (← lots-read .before .u8-at2 .ensures) (sym (c .is-outside2 .ensures) ∙ e)
 
 long : (c : tie.Else2) → 7 ≤ length (book (opened (lots-read (c .before))))
-long c = said-of-given (opening-says bookMark _) tt (opens (opened (lots-read (c .before)))) .seven
+long c = said-of-given (opening-says bookMark 2 _) tt (opens (opened (lots-read (c .before)))) .seven
 
 returns : tie.Need-returns
 unfolding readBook
@@ -53,23 +53,23 @@ returns-3 c =
     let l = lots-read (c .before) in
     simp (opens (opened l), lots-outside l (c .before .before .if1 .left), calls-outside (c .before) (c .if2 .taken))
 
-rows-are : (c : tie.After-read-rows) → (let s = book (c .before .before .before .before .before .before .before .before) in
-    statedStep (c .read-rows .result) ≡ readRows (drop 7 s) 0 (bookLots s) (bookCalls s))
+rows-are : (c : tie.After-read-rows) → (let s = book (c .before .before .before .before .before .before .before .before .before) in
+    statedStep (c .read-rows .result) ≡ readRows (drop 7 s) (bookVersion s) 0 (bookLots s) (bookCalls s))
 rows-are c =
-    let at = c .before .before .before .before .before .before in
-    rw (rest-is, at .before .u8-at .ensures, at .u8-at2 .ensures) at (c .read-rows .ensures)
+    let at = c .before .before .before .before .before .before .before in
+    rw (rest-is, c .before .version-of .ensures, at .before .u8-at .ensures, at .u8-at2 .ensures) at (c .read-rows .ensures)
 
-passed : (c : tie.After-read-rows) → (let s = book (c .before .before .before .before .before .before .before .before) in
+passed : (c : tie.After-read-rows) → (let s = book (c .before .before .before .before .before .before .before .before .before) in
     readBook s ≡ (statedStep (c .read-rows .result) >>= λ _. gives (record { lots = bookLots s; calls = bookCalls s })))
 unfolding readBook
 passed c =
-    let m = c .before .before .before in
+    let m = c .before .before .before .before in
     let l = lots-read m in
-    simp (rows-are c, opens (opened l), lots-outside l (m .before .if1 .left), calls-outside m (c .before .before .if2 .left))
+    simp (rows-are c, opens (opened l), lots-outside l (m .before .if1 .left), calls-outside m (c .before .before .before .if2 .left))
 
 returns-4 : tie.Need-returns-4
 returns-4 c =
-    let at = c .before .before .before .before .before .before .before .before in
+    let at = c .before .before .before .before .before .before .before .before .before in
     sym (rw (c .enum-told2 .given .1, ← at .before .u8-at .ensures, ← at .u8-at2 .ensures) at (passed (c .before .before)))
 
 returns-5 : tie.Need-returns-5
@@ -94,6 +94,7 @@ read-book-spec =
     (λ c. long c)
     (λ c. long c)
     (λ c. search needs)
+    (λ c κs. search needs)
     (λ c κs. search needs)
     (λ c. search needs)
     (λ c. search needs)

@@ -20,14 +20,16 @@ use Rattle.book.proofs.read_rows.Statement.{statement}
 use Rattle.book.proofs.read_rows.Tie as tie
 
 abbrev Inv-loop : tie.InvT-loop
-Inv-loop rows lots calls at₀ lot₀ at lot =
-    (lot ≤ lots) × (at ≤ length rows) × (readRows rows 0 lots calls ≡ readRows (drop at rows) lot (lots - lot) calls)
+Inv-loop rows version lots calls at₀ lot₀ at lot =
+    (lot ≤ lots) × (at ≤ length rows) × (readRows rows version 0 lots calls ≡ readRows (drop at rows) version lot (lots - lot) calls)
 
 abbrev μ-loop : tie.MeasureT-loop
-μ-loop rows lots calls at₀ lot₀ at lot = lots - lot
+μ-loop rows version lots calls at₀ lot₀ at lot = lots - lot
 
 loop-holds : tie.Need-loop-holds Inv-loop μ-loop
-loop-holds c = (omega arith, omega arith, ap (λ (n : ℕ). readRows (c .before .args .rows .now) 0 n (c .before .args .calls)) (omega arith))
+loop-holds c =
+    let a = c .before .args in
+    (omega arith, omega arith, ap (λ (n : ℕ). readRows (a .rows .now) (a .version) 0 n (a .calls)) (omega arith))
 
 -- the reply of the row that the loop is at, and what is left after it
 module _ (c : tie.After-read-row Inv-loop μ-loop) where
@@ -37,18 +39,22 @@ module _ (c : tie.After-read-row Inv-loop μ-loop) where
   abbrev rows : List ℕ
   rows = loop .before .before .args .rows .now
 
+  abbrev version : ℕ
+  version = loop .before .before .args .version
+
   abbrev calls : ℕ
   calls = loop .before .before .args .calls
 
   abbrev row : List ℕ
   row = drop (loop .loop .at) rows
 
-  row-is : readRow row (loop .loop .lot) calls ≡ statedStep (c .read-row .result)
+  row-is : readRow row version (loop .loop .lot) calls ≡ statedStep (c .read-row .result)
   row-is = sym (rw rest-is at (c .read-row .ensures))
 
   step-is : {r : Reply (Unit {0})} → statedStep (c .read-row .result) ≡ r → (let lots = loop .before .before .args .lots in
-      readRows rows 0 lots calls ≡ (r >>= λ _. readRows (drop (rowSize row) row) (loop .loop .lot + 1) (lots - (loop .loop .lot + 1)) calls))
-  step-is e = loop .loop .inv .2 ∙ rows-step _ _ _ _ (c .before .before .loop-test .taken) (row-is ∙ e)
+      readRows rows version 0 lots calls
+      ≡ (r >>= λ _. readRows (drop (rowSize row) row) version (loop .loop .lot + 1) (lots - (loop .loop .lot + 1)) calls))
+  step-is e = loop .loop .inv .2 ∙ rows-step _ _ _ _ _ (c .before .before .loop-test .taken) (row-is ∙ e)
 
 returns : tie.Need-returns Inv-loop μ-loop
 returns c = sym (step-is (c .before .before .before) (ap statedStep (c .before .step .given .1)))
@@ -63,7 +69,7 @@ module _ (c : tie.After-size Inv-loop μ-loop) where
 
   inside : loop read .loop .at + c .size .result ≤ length (rows read)
   inside =
-      let known = said-of-given (row-says (row read) _ _) tt (row-is read ∙ ap statedStep (c .before .enum-told .given .1)) in
+      let known = said-of-given (row-says (row read) _ _ _) tt (row-is read ∙ ap statedStep (c .before .enum-told .given .1)) in
       omega (arith, size-is, known .costs-whole, loop read .loop .inv .1, length-drop (loop read .loop .at) (rows read))
 
   next-part : drop (rowSize (row read)) (row read) ≡ drop (loop read .loop .at + c .size .result) (rows read)
@@ -79,11 +85,11 @@ loop-again c = (
 )
 
 end-is : (c : tie.After-loop Inv-loop μ-loop) {b : Bool} → (let l = c .before in let a = l .before .before .args in
-    ltb (l .loop .at) (length (a .rows .now)) ≡ b → readRows (a .rows .now) 0 (a .lots) (a .calls) ≡ refuseIf b 8 [])
+    ltb (l .loop .at) (length (a .rows .now)) ≡ b → readRows (a .rows .now) (a .version) 0 (a .lots) (a .calls) ≡ refuseIf b 8 [])
 end-is c e =
     let l = c .before in
     let a = l .before .before .args in
-    rw (← e) (l .loop .inv .2 ∙ rows-end (a .lots) (l .loop .lot) (a .calls) (l .loop .at) (a .rows .now) (c .loop-test .left))
+    rw (← e) (l .loop .inv .2 ∙ rows-end (a .version) (a .lots) (l .loop .lot) (a .calls) (l .loop .at) (a .rows .now) (c .loop-test .left))
 
 returns-2 : tie.Need-returns-2 Inv-loop μ-loop
 returns-2 c = sym (end-is (c .before) (lt-ltb _ _ (c .if1 .taken)))

@@ -1,5 +1,6 @@
 -- `book::inner::all_within` meets its contract. The invariant: the flag says whether every number passed is within the limit.
-use mathlib.Core.Path.{_≡_, refl, _∙_}
+use borrow.Author.Needs.{needs}
+use mathlib.Core.Path.{_≡_, refl, ap, _∙_}
 use mathlib.Core.Bool.{and-false, and-true}
 use mathlib.Core.Logic.{⊎-elim}
 use Prim.Native.Nat.{_+_, _*_, _-_, _≤_}
@@ -9,14 +10,16 @@ use lib.Dec.{leb}
 use Rattle.transport.specs.Finder.{every}
 use Rattle.transport.proofs.Laws.Searches.{every-more}
 use Rattle.specification.specs.Bytes.{u32At}
+use Rattle.specification.specs.Costs.{liftedCost}
 use Rattle.book.proofs.inner.all_within.Statement.{statement}
 use Rattle.book.proofs.inner.all_within.Tie as tie
 
 abbrev Inv-loop : tie.InvT-loop
-Inv-loop s start count limit within₀ k₀ within k = (k ≤ count) × (within ≡ every k (λ i. leb (u32At s (start + 4 * i)) limit))
+Inv-loop s start count base limit within₀ k₀ within k =
+    (k ≤ count) × (within ≡ every k (λ i. leb (liftedCost base (u32At s (start + 4 * i))) limit))
 
 abbrev μ-loop : tie.MeasureT-loop
-μ-loop s start count limit within₀ k₀ within k = count - k
+μ-loop s start count base limit within₀ k₀ within k = count - k
 
 loop-holds : tie.Need-loop-holds Inv-loop μ-loop
 unfolding every
@@ -24,12 +27,13 @@ loop-holds c = (omega arith, refl)
 
 loop-again : tie.Need-loop-again Inv-loop μ-loop
 loop-again c =
-    let l = c .before .before .before .loop in (
+    let lifted-is = c .before .lifted .ensures ∙ ap (liftedCost _) (c .before .before .cost-at .ensures) in
+    let l = c .before .before .before .before .loop in (
       omega arith,
       ⊎-elim
-          (λ (if1, within-is). within-is ∙ rw (← every-more, lt-leb _ _ (rw (c .before .cost-at .ensures) at (if1 .taken)), and-false))
+          (λ (if1, within-is). within-is ∙ rw (← every-more, lt-leb _ _ (rw lifted-is at (if1 .taken)), and-false))
           (λ (if1, within-is).
-          within-is ∙ l .inv .1 ∙ rw (← every-more, le-leb _ _ (rw (c .before .cost-at .ensures) at (if1 .left)), and-true))
+          within-is ∙ l .inv .1 ∙ rw (← every-more, le-leb _ _ (rw lifted-is at (if1 .left)), and-true))
           (c .if1 .came),
     )
 
@@ -46,6 +50,7 @@ all-within-spec =
     (λ c. omega arith)
     (λ c. omega arith)
     (λ c κs. omega arith)
+    (λ c κs. search needs)
     (λ c. omega arith)
     (λ c. omega arith)
     loop-again

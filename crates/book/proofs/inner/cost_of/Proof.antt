@@ -11,7 +11,7 @@ cost-at-requires c κs =
     rw (c .entry-of .ensures) (start .pre .tabled .within (32 * start .args .lot .0 + start .args .call .0) (omega arith))
 
 returns : tie.Need-returns
-returns c = rw (c .before .entry-of .ensures) at (c .cost-at .ensures)
+returns c = rw (c .lifted .ensures, c .before .cost-at .ensures, c .before .before .entry-of .ensures)
 
 pub cost-of-spec : {M : Type 1} → statement M
-cost-of-spec = tie.close (tie.spec (λ c κs. search needs) cost-at-requires returns)
+cost-of-spec = tie.close (tie.spec (λ c κs. search needs) cost-at-requires (λ c κs. search needs) returns)

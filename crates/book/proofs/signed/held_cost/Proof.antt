@@ -3,7 +3,7 @@ use mathlib.Core.Path.{_≡_, sym, _∙_}
 use borrow.Author.Needs.{needs, sfits-of}
 use lib.IntN.{pos, _-ℤ_}
 use mir.Facts.{toZ-ofZ}
-use Rattle.specification.proofs.Costs.{cost-held}
+use Rattle.specification.proofs.Costs.{held-is}
 use Rattle.book.proofs.signed.held_cost.Statement.{statement}
 use Rattle.book.proofs.signed.held_cost.Tie as tie
 
@@ -14,7 +14,7 @@ returns c =
     let is : c .difference .result ≡ pos (l .lifted .result) -ℤ pos (l .before .cost-base .result) = c .difference .ensures in
     toZ-ofZ (sfits-of (c .difference .ok))
     ∙ is
-    ∙ rw (l .lifted .ensures, l .before .cost-base .ensures) (sym (cost-held (s .args .version) (s .args .held) (s .pre)))
+    ∙ rw (l .lifted .ensures, l .before .cost-base .ensures) (sym (held-is (s .args .version) (s .args .held) (s .pre)))
 
 pub held-cost-spec : {M : Type 1} → statement M
 held-cost-spec =
