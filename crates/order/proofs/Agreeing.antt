@@ -31,7 +31,7 @@ module _ (book table : List ℕ) (n m : ℕ) (same : Same (problemBy book table 
   pairs-by-table before place [] = refl
   pairs-by-table before place (p ∷ S) = rw (admits-are (p .lot) (p .call), pairs-by-table (p ∷ before) (suc place) S)
 
-pub whole-check : (book s : List ℕ) (size : Size) → readBook book ≡ gives size → readOpening orderMark s ≡ gives tt
+pub whole-check : (book s : List ℕ) (size : Size) → readBook book ≡ gives size → readOpening orderMark 1 s ≡ gives tt
     → length s ≡ 7 + 2 * orderCount s → checkOrder book s ≡ checkedPairs (problemOf book) (orderPairs s) (orderCount s)
 unfolding checkOrder
 whole-check book s size readable opens long = rw (

@@ -9,7 +9,7 @@ use lib.Dec.{T, T-not, ltb, eqb, ltb→lt}
 use Rattle.transport.proofs.Laws.Tests.{T-true, and-says}
 use Rattle.transport.specs.Problem.{Eligible}
 use Rattle.transport.proofs.Finder.Gaps.{Bounded}
-use Rattle.specification.specs.Costs.{costLimit}
+use Rattle.specification.specs.Costs.{costTop}
 use Rattle.book.specs.Table.{entry, admitsBy, problemBy, Tabled}
 
 -- a pair that the table admits is among its lots and calls and has an offset
@@ -28,8 +28,8 @@ pub inside-table : (book table : List ℕ) (n m i j : ℕ) → T (problemBy book
 inside-table book table n m i j t = let (in-lots, in-calls, _) = admitted-in table n m i j (T-true (admitsBy table n m i j) t) in
     (in-lots, in-calls, t)
 
--- the costs of a table are within the limit
-pub bounded : (book table : List ℕ) (n m : ℕ) → n ≤ 32 → m ≤ 32 → Tabled book table → Bounded (problemBy book table n m) costLimit
+-- the costs of a table are within the range
+pub bounded : (book table : List ℕ) (n m : ℕ) → n ≤ 32 → m ≤ 32 → Tabled book table → Bounded (problemBy book table n m) costTop
 bounded book table n m few few′ tabled i j e =
     let inside = admitted-in table n m i j (T-true (admitsBy table n m i j) (e .2)) in
     tabled .cheap (32 * i + j) (omega (arith, e .0, e .1)) (inside .2)

@@ -16,7 +16,7 @@ use Rattle.transport.specs.Problem.{Problem}
 use Rattle.transport.specs.Greedy.{pair}
 use Rattle.transport.proofs.Laws.Tests.{eqb-true, eqb-false}
 use Rattle.transport.proofs.Finder.Backward.{callGap, lowered}
-use Rattle.specification.specs.Costs.{costLimit}
+use Rattle.specification.specs.Costs.{costTop}
 use Rattle.specification.specs.Book.{bit}
 use Rattle.book.specs.Table.{entry, problemBy, Tabled}
 use Rattle.words.proofs.Sets.{bit-none, bit-or, bit-and, bit-single}
@@ -131,29 +131,29 @@ module _ (book table : List ℕ) (n m : ℕ) (few : m ≤ 32) (few-lots : n ≤ 
   old-out l hl e = keeps .at j l call-in hl ∙ rw e
 
   -- the gap at lot i over a call that it is eligible for is above 0, and over another 0
-  gap-out : (l : ℕ) → P .admits i l ≡ false → callGap P costLimit j l i ≡ 0
+  gap-out : (l : ℕ) → P .admits i l ≡ false → callGap P costTop j l i ≡ 0
   gap-out l e = rw e
 
   gap-some : (l : ℕ) → l < m → P .admits i l ≡ true → 0 < tableGap book table i j l
   gap-some l hl e = omega (arith, tabled .cheap (32 * i + l) (omega arith) (admitted-in table n m i l e .2))
 
-  pub keeps-turn : Keeps m (set common j shared) after (lowered P costLimit gaps (pair i j))
+  pub keeps-turn : Keeps m (set common j shared) after (lowered P costTop gaps (pair i j))
   keeps-turn = record { at = at }
     where
       here : (l : ℕ) → l < m → (s t : Bool) → bit (getD common j 0) l ≡ s → P .admits i l ≡ t
-          → min (gaps j l) (callGap P costLimit j l i) ≡ cond (bit shared l) (entry after j l) 0
+          → min (gaps j l) (callGap P costTop j l i) ≡ cond (bit shared l) (entry after j l) 0
       here l hl true true s t =
           rw (shared-is l hl, s, t, old-in l hl s) (sym (entered .lowers l hl (shared-is l hl ∙ rw (s, t))))
       here l hl true false s t = rw (shared-is l hl, s, t) (omega (arith, gap-out l t))
       here l hl false t s e = rw (shared-is l hl, s) (omega (arith, old-out l hl s))
 
-      at : (a l : ℕ) → a < m → l < m → lowered P costLimit gaps (pair i j) a l ≡ cond (bit (getD (set common j shared) a 0) l) (entry after a l) 0
+      at : (a l : ℕ) → a < m → l < m → lowered P costTop gaps (pair i j) a l ≡ cond (bit (getD (set common j shared) a 0) l) (entry after a l) 0
       at a l ha hl = by-cases (ℕ-discrete a j)
           (λ (e : a ≡ j). rw (e, eqb-true j, getD-set-same common j shared 0 (omega (arith, long))) (here l hl _ _ refl refl))
           (λ ne. rw (eqb-false a j ne, getD-set-other common j a shared 0 ne, entered .others a l ha hl ne) (keeps .at a l ha hl))
 
   -- the answer has the calls that lot i is eligible for over which the pair's gap is the least
-  pub fits-is : (l : ℕ) → l < m → P .admits i l ≡ true → bit r l ≡ leb (callGap P costLimit j l i) (lowered P costLimit gaps (pair i j) j l)
+  pub fits-is : (l : ℕ) → l < m → P .admits i l ≡ true → bit r l ≡ leb (callGap P costTop j l i) (lowered P costTop gaps (pair i j) j l)
   fits-is l hl e = rw (entered .says l hl, shared-is l hl, e, and-true (bit (getD common j 0) l), eqb-true j)
       (go (bit (getD common j 0) l) refl)
     where

@@ -1,4 +1,4 @@
--- The test of one quadruple by the table of offsets: where three of its pairs are eligible, the book's own costs stand at the offsets, and
+-- The test of one quadruple by the table of offsets: where three of its pairs are eligible, the book's own costs stand at the offsets, all with one number added, and
 -- an offset of 0 says that (k, l) is not eligible. So each answer is the specification's.
 use mathlib.Core.Path.{_≡_, sym}
 use mathlib.Core.List.{List, [], _∷_}
@@ -8,16 +8,15 @@ use Rattle.transport.specs.Problem.{Problem, Eligible}
 use Rattle.transport.specs.Greedy.{pair}
 use Rattle.transport.proofs.Laws.Tests.{T-true}
 use Rattle.specification.specs.Reply.{gives, refuses}
-use Rattle.specification.specs.Bytes.{u32At}
 use Rattle.specification.specs.Book.{problemOf}
 use Rattle.specification.specs.Check.{checkQuadruple}
 use Rattle.specification.specs.Demands.{Readable}
 use Rattle.specification.specs.Requests.{ThreeEligible}
 use Rattle.specification.proofs.Quadruples.{quadruple-not-eligible, quadruple-too-high, quadruple-holds}
 use Rattle.book.specs.Pairs.{offsetTable}
-use Rattle.book.specs.Table.{entry, Tabled}
+use Rattle.book.specs.Table.{entry, raisedAt, Tabled}
 use Rattle.book.proofs.Readable.{Read, counts-are}
-use Rattle.book.proofs.Tables.{lot-few, call-few, cost-at, eligible-at, not-eligible-at, offsets-tabled}
+use Rattle.book.proofs.Tables.{lot-few, call-few, lacking, cost-at, eligible-at, not-eligible-at, offsets-tabled}
 
 -- the lots and calls of a readable book are of the table's
 module _ (book : List ℕ) (readable : Readable book) where
@@ -56,9 +55,9 @@ module _ {book table : List ℕ} {i j k l : ℕ} (three : ThreeEligible book i j
     other = eligible-at book read k l (all-in .2) (all-in .3) (λ e. some (rw offsets e))
 
     abbrev cost : ℕ → ℕ → ℕ
-    cost a b = u32At book (entry table a b)
+    cost a b = raisedAt book (entry table a b)
 
-    costs-are : (a b : ℕ) → Eligible P a b → cost a b ≡ P .cost a b
+    costs-are : (a b : ℕ) → Eligible P a b → cost a b ≡ P .cost a b + lacking book read
     costs-are a b e = rw offsets (cost-at book read a b e)
 
     pub told-too-high : cost i l + cost k j < cost i j + cost k l → refuses 12 (i ∷ j ∷ k ∷ l ∷ []) ≡ checkQuadruple P (pair i j) k l

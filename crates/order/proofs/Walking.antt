@@ -25,7 +25,7 @@ use Rattle.transport.proofs.Finder.Gaps.{least-at-same}
 use Rattle.transport.proofs.Finder.Exchanged.{exchanged, across}
 use Rattle.transport.proofs.Finder.Backward.{backward, callGap, lowered, leastFor, in-play-stands, verdict-is-free}
 use Rattle.specification.specs.Bytes.{u32At}
-use Rattle.specification.specs.Costs.{costLimit}
+use Rattle.specification.specs.Costs.{costTop}
 use Rattle.specification.specs.Book.{bit}
 use Rattle.book.specs.Table.{entry, problemBy}
 use Rattle.words.proofs.Sets.{bit-none, bit-or, bit-and, bit-single, bit-all, within-exactly}
@@ -60,8 +60,8 @@ module _ (book table starts order : List ℕ) (count n m : ℕ) (w : Walkable bo
   lists : Lists P (orderPair order p ∷ rest order count (p + 1))
   lists = rw (rest-more order count p h) at (lists-from order count P (lists-of-order each-once) p (omega arith))
 
-  turn-gaps : lowered P costLimit (backward P costLimit (rest order count (p + 1)) .gaps) (orderPair order p)
-      ≡ backward P costLimit (rest order count p) .gaps
+  turn-gaps : lowered P costTop (backward P costTop (rest order count (p + 1)) .gaps) (orderPair order p)
+      ≡ backward P costTop (rest order count p) .gaps
   unfolding backward
   turn-gaps = rw (rest-more order count p h)
 
@@ -74,30 +74,30 @@ module _ (book table starts order : List ℕ) (count n m : ℕ) (w : Walkable bo
     stands-is l = marked-is l ∙ ap (λ (S : List Pair). standing S (orderPair order p .lot) l) (rest-more order count p h)
 
     in-play-is : (l : ℕ) → bit marked l
-        ≡ withPair (backward P costLimit (rest order count (p + 1)) .inPlay) (orderPair order p) (orderPair order p .lot) l
+        ≡ withPair (backward P costTop (rest order count (p + 1)) .inPlay) (orderPair order p) (orderPair order p .lot) l
     unfolding backward
-    in-play-is l = stands-is l ∙ sym (in-play-stands P costLimit (orderPair order p ∷ rest order count (p + 1)) (orderPair order p .lot) l)
+    in-play-is l = stands-is l ∙ sym (in-play-stands P costTop (orderPair order p ∷ rest order count (p + 1)) (orderPair order p .lot) l)
 
     -- they are eligible
     marked-eligible : (l : ℕ) → T (bit marked l) → Eligible P (orderPair order p .lot) l
     marked-eligible l t = lists .eligible (orderPair order p .lot) l (standing-says (orderPair order p ∷ rest order count (p + 1))
         (orderPair order p .lot) l (subst T (stands-is l) t))
 
-    turn-free : leastFor P costLimit (λ k l. bit marked l)
-        (lowered P costLimit (backward P costLimit (rest order count (p + 1)) .gaps) (orderPair order p) (orderPair order p .call))
+    turn-free : leastFor P costTop (λ k l. bit marked l)
+        (lowered P costTop (backward P costTop (rest order count (p + 1)) .gaps) (orderPair order p) (orderPair order p .call))
         (orderPair order p)
         ≡ freeAt P order count p
     turn-free = rw (rest-more order count p h)
-        (least-at-same (exchanged P) costLimit (across (λ k l. bit marked l))
-        (across (withPair (backward P costLimit (rest order count (p + 1)) .inPlay) (orderPair order p)))
-        (lowered P costLimit (backward P costLimit (rest order count (p + 1)) .gaps) (orderPair order p) (orderPair order p .call)) _
+        (least-at-same (exchanged P) costTop (across (λ k l. bit marked l))
+        (across (withPair (backward P costTop (rest order count (p + 1)) .inPlay) (orderPair order p)))
+        (lowered P costTop (backward P costTop (rest order count (p + 1)) .gaps) (orderPair order p) (orderPair order p .call)) _
         (orderPair order p .call) (orderPair order p .lot) (λ l hl. in-play-is l) (λ l hl. refl)
-        ∙ verdict-is-free P costLimit (bounded book table n m few-lots (w .few-calls) (w .tabled)) (orderPair order p) _ lists)
+        ∙ verdict-is-free P costTop (bounded book table n m few-lots (w .few-calls) (w .tabled)) (orderPair order p) _ lists)
 
     -- the pair is free exactly where all of them are in the word of the calls over which its gap is the least
     free-by-words : marked < 2 ^ 32 → (fits : ℕ) → ((l : ℕ) → l < m → P .admits (orderPair order p .lot) l ≡ true
-        → bit fits l ≡ leb (callGap P costLimit (orderPair order p .call) l (orderPair order p .lot))
-        (lowered P costLimit (backward P costLimit (rest order count (p + 1)) .gaps) (orderPair order p) (orderPair order p .call) l))
+        → bit fits l ≡ leb (callGap P costTop (orderPair order p .call) l (orderPair order p .lot))
+        (lowered P costTop (backward P costTop (rest order count (p + 1)) .gaps) (orderPair order p) (orderPair order p .call) l))
         → eqb (bitAnd marked fits) marked ≡ freeAt P order count p
     free-by-words small fits fits-are =
         within-exactly m 32 marked fits small (λ l far. T-false (bit marked l) (λ t. omega (arith, marked-eligible l t .1)))
@@ -124,7 +124,7 @@ pub record WalkedFrom (book table order : List ℕ) (count m p : ℕ) (common la
   pub marked : (i l : ℕ) → i < 32 → bit (getD later i 0) l ≡ standing (rest order count p) i l
   pub capped : Capped least
   pub walked : (n : ℕ) → n ≤ 32 → OrderOf (problemBy book table n m) (rest order count 0)
-      → Keeps m common least (backward (problemBy book table n m) costLimit (rest order count p) .gaps)
+      → Keeps m common least (backward (problemBy book table n m) costTop (rest order count p) .gaps)
       × LowestNotFree (problemBy book table n m) order count p lowest
 
 -- before the first turn nothing is in play
@@ -185,7 +185,7 @@ module _ (book table starts order : List ℕ) (count m : ℕ) (w : Walkable book
     lot-in : i < n
     lot-in = rw lot-is (own .0)
 
-    kept : Keeps m common least (backward (problemBy book table n m) costLimit (rest order count (p + 1)) .gaps)
+    kept : Keeps m common least (backward (problemBy book table n m) costTop (rest order count (p + 1)) .gaps)
     kept = rw next-is at (so-far .walked n few-lots each-once .0)
 
     -- the row's word has the calls that the lot is eligible for
@@ -194,7 +194,7 @@ module _ (book table starts order : List ℕ) (count m : ℕ) (w : Walkable book
         (w .worded .has i j l lot-few call-few (omega (arith, w .few-calls)) (λ e. w .in-table p h (rw (← lot-is, ← call-is) e)))
 
     keeps-are : Keeps m (set common j (bitAnd (getD common j 0) row)) after
-        (backward (problemBy book table n m) costLimit (rest order count p) .gaps)
+        (backward (problemBy book table n m) costTop (rest order count p) .gaps)
     keeps-are = rw (← turn-gaps book table starts order count n m w few-lots each-once p h, ← lot-is, ← call-is)
         (keeps-turn book table n m (w .few-calls) few-lots (w .tabled) i j lot-in (rw call-is (own .1)) _ common least after
         (so-far .long .0) row fits row-has entered kept)

@@ -5,22 +5,21 @@ use mathlib.Core.List.{List}
 use Prim.Native.Nat.{ℕ, suc, _+_, _*_, _-_, _^_, _≤_, _<_, min}
 use lib.Dec.{ltb, leb}
 use lib.ListN.{length, getD, set}
-use Rattle.specification.specs.Bytes.{u32At}
-use Rattle.specification.specs.Costs.{costLimit}
+use Rattle.specification.specs.Costs.{costTop}
 use Rattle.specification.specs.Book.{bit}
-use Rattle.book.specs.Table.{entry, Tabled}
+use Rattle.book.specs.Table.{entry, raisedAt, Tabled}
 
--- the highest gap: of a cost at the limit over one of 0
+-- the highest gap: of a cost at the limit over one as far below zero
 abbrev pub gapTop : ℕ
-gapTop = suc (costLimit + costLimit)
+gapTop = suc (costTop + costTop)
 
--- the gap of a call with the cost `own` over one whose cost the book holds at a byte
+-- the gap of a call with the cost `own` over one whose cost the book holds at a byte, both with the limit added
 abbrev pub gapOver : List ℕ → ℕ → ℕ → ℕ
-gapOver book own at = suc (costLimit + own) - u32At book at
+gapOver book own at = suc (costTop + own) - raisedAt book at
 
 -- the gap of call j over call l at lot i, by the table
 abbrev pub tableGap : List ℕ → List ℕ → ℕ → ℕ → ℕ → ℕ
-tableGap book table i j l = gapOver book (u32At book (entry table i j)) (entry table i l)
+tableGap book table i j l = gapOver book (raisedAt book (entry table i j)) (entry table i l)
 
 -- 1,024 entries, none above the highest gap
 pub record Capped (xs : List ℕ) : Type 0 where
@@ -34,8 +33,8 @@ pub record Singles (words : List ℕ) : Type 0 where
 -- the gap of call j, of the cost `own`, over call l, whose cost stands at a byte
 pub record CanLower (book : List ℕ) (own at j l : ℕ) (least : List ℕ) : Type 0 where
   pub within : at + 4 ≤ length book
-  pub cheap : u32At book at ≤ costLimit
-  pub own-cheap : own ≤ costLimit
+  pub cheap : raisedAt book at ≤ costTop
+  pub own-cheap : own ≤ costTop
   pub call-in : j < 32
   pub other-in : l < 32
   pub capped : Capped least
@@ -43,9 +42,9 @@ pub record CanLower (book : List ℕ) (own at j l : ℕ) (least : List ℕ) : Ty
 -- the gaps over m calls whose costs stand side by side
 pub record CanLowerRow (book : List ℕ) (own start m : ℕ) (singles : List ℕ) (j : ℕ) (least : List ℕ) : Type 0 where
   pub within : (l : ℕ) → l < m → start + 4 * l + 4 ≤ length book
-  pub cheap : (l : ℕ) → l < m → u32At book (start + 4 * l) ≤ costLimit
+  pub cheap : (l : ℕ) → l < m → raisedAt book (start + 4 * l) ≤ costTop
   pub few-calls : m ≤ 32
-  pub own-cheap : own ≤ costLimit
+  pub own-cheap : own ≤ costTop
   pub call-in : j < 32
   pub singled : Singles singles
   pub capped : Capped least
@@ -54,7 +53,7 @@ pub record CanLowerRow (book : List ℕ) (own start m : ℕ) (singles : List ℕ
 pub record CanLowerSet (book table : List ℕ) (own word : ℕ) (singles : List ℕ) (i j : ℕ) (least : List ℕ) : Type 0 where
   pub tabled : Tabled book table
   pub has : (l : ℕ) → l < 32 → bit word l ≡ true → entry table i l ≡ 0 → ⊥
-  pub own-cheap : own ≤ costLimit
+  pub own-cheap : own ≤ costTop
   pub lot-in : i < 32
   pub call-in : j < 32
   pub singled : Singles singles

@@ -16,6 +16,9 @@ const RAISE: u32 = 2 * COST_LIMIT + 1;
 
 pub const GAP_TOP: u32 = 2 * COST_LIMIT + RAISE;
 
+// What a cost with the limit added is raised by before another, as the book holds it, is taken from it.
+const RAISE_OF_RAISED: u32 = RAISE - COST_LIMIT;
+
 // For each call, the word that has it alone.
 pub fn singles() -> [u32; 32]
     ensures { λ r. ⌜ Singles r ⌝ }
@@ -44,8 +47,8 @@ fn pick(test: bool, a: u32, b: u32) -> u32
     if test { a } else { b }
 }
 
-// Lowers the least gap of call j over call l to the one at a lot, which has the cost `own` for call j and for call l the cost at a byte of
-// the book. The answer is 0 where the least gap was lower already, and else the word of call l.
+// Lowers the least gap of call j over call l to the one at a lot, which has for call j the cost `own`, with the limit added, and for call l
+// the cost at a byte of the book. The answer is 0 where the least gap was lower already, and else the word of call l.
 fn lower(
     book: &[u8],
     own: u32,
@@ -61,7 +64,7 @@ fn lower(
 {
     let call = j.0;
     let other = l.0;
-    let new = std::num::wrapping_sub_u32(own + RAISE - COST_LIMIT, book::inner::cost_at(book, at));
+    let new = std::num::wrapping_sub_u32(own + RAISE_OF_RAISED, book::inner::cost_at(book, at));
     let old = least[32 * call + other];
     let over = under(old, new);
     least[32 * call + other] = pick(over, old, new);

@@ -1,14 +1,18 @@
 -- `amounts::inner::read_of` meets its contract: at each `return` the tests that led there say which line of `readAmountsOf` refuses.
 use borrow.Author.Needs.{needs}
 use borrow.Author.Tests.{lt-ltb, le-ltb, eq-eqb, ne-eqb}
-use mathlib.Core.Path.{_≡_, sym, ap, _∙_}
-use mathlib.Core.Bool.{true}
+use mathlib.Core.Path.{_≡_, sym, ap, fun-ext, _∙_}
+use mathlib.Core.Bool.{Bool, true}
 use mathlib.Core.List.{List}
-use Prim.Native.Nat.{ℕ}
-use lib.Dec.{eqb}
+use Prim.Native.Nat.{ℕ, _+_, _*_}
+use native.Mathlib.Omega.{arith}
+use lib.Dec.{eqb, leb}
+use Rattle.transport.specs.Finder.{every}
 use Rattle.specification.specs.Reply.{gives}
 use Rattle.specification.specs.Bytes.{byteAt, amountsMark, readOpening}
-use Rattle.specification.specs.Amounts.{readAmountsOf}
+use Rattle.specification.specs.Costs.{liftedCost}
+use Rattle.specification.specs.Amounts.{amountLimit, amountAt, readAmountsOf}
+use Rattle.specification.proofs.Numbers.{u32-below}
 use Rattle.files.specs.Files.{statedStep}
 use Rattle.amounts.proofs.inner.read_of.Statement.{statement}
 use Rattle.amounts.proofs.inner.read_of.Tie as tie
@@ -20,7 +24,7 @@ module _ (c : tie.After-enum-told) where
   abbrev bytes : List ℕ
   bytes = start .args .amounts .now
 
-  opens : readOpening amountsMark bytes ≡ gives tt
+  opens : readOpening amountsMark 1 bytes ≡ gives tt
   opens = sym (c .before .before .read-opening .ensures) ∙ ap statedStep (c .enum-told .given .1)
 
 module _ (c : tie.Else1) where
@@ -70,6 +74,20 @@ returns-5 c =
       lt-ltb _ _ (c .if4 .taken),
     )
 
+-- the test of the amounts is that of 32-bit numbers to which nothing is added
+module _ (c : tie.After-all-within) where
+  abbrev sized : tie.Else2
+  sized = c .before .before .before
+
+  within-is : {b : Bool} → c .all-within .result ≡ b
+      → (let a = start (opened (one sized)) .args in every (a .lots + a .calls) (λ k. leb (amountAt (bytes (opened (one sized))) k) amountLimit) ≡ b)
+  within-is e =
+      let a = start (opened (one sized)) .args in
+      let s : List ℕ = bytes (opened (one sized)) in
+      let fits = u32-below s (λ i. omega (arith, opened (one sized) .before .before .before .before .shared-slice-known .given i)) in
+      let same : (k : ℕ) → amountAt s k ≡ liftedCost 0 (amountAt s k) = λ k. let below = fits (7 + 4 * k) in omega arith in
+      ap (every (a .lots + a .calls)) (fun-ext (λ k. ap (λ n. leb n amountLimit) (same k))) ∙ sym (c .all-within .ensures) ∙ e
+
 returns-6 : tie.Need-returns-6
 unfolding readAmountsOf
 returns-6 c =
@@ -80,7 +98,7 @@ returns-6 c =
       calls-same f,
       le-ltb _ _ (c .before .before .before .if3 .left),
       le-ltb _ _ (c .before .before .if4 .left),
-      sym (c .before .all-within .ensures) ∙ c .if5 .taken,
+      within-is (c .before) (c .if5 .taken),
     )
 
 returns-7 : tie.Need-returns-7
@@ -93,7 +111,7 @@ returns-7 c =
       calls-same f,
       le-ltb _ _ (c .before .before .before .if3 .left),
       le-ltb _ _ (c .before .before .if4 .left),
-      sym (c .before .all-within .ensures) ∙ c .if5 .left,
+      within-is (c .before) (c .if5 .left),
     )
 
 pub read-of-spec : {M : Type 1} → statement M

@@ -1,24 +1,23 @@
 -- `order::gaps::lower` meets its contract: the lesser of the two gaps is kept.
 use mathlib.Core.Path.{_≡_}
-use Prim.Native.Nat.{suc, _+_, _*_, _-_}
+use Prim.Native.Nat.{_+_, _*_}
 use native.Mathlib.Omega.{arith}
 use borrow.Author.Needs.{needs}
-use Rattle.specification.specs.Costs.{costLimit}
 use Rattle.order.specs.Gaps.{gapOver}
 use Rattle.order.proofs.Lowering.{lesser-is}
 use Rattle.order.proofs.gaps.lower.Statement.{statement}
 use Rattle.order.proofs.gaps.lower.Tie as tie
 
+-- the cost is within the range, so the difference is above 0
+new-is : (c : tie.After-wrapping-sub-u32) → (let a = c .before .before .before .args in
+    c .wrapping-sub-u32 .result ≡ gapOver (a .book .now) (a .own) (a .at))
+new-is c = omega (arith, c .wrapping-sub-u32 .ensures, c .before .cost-at .ensures, c .before .before .before .pre .cheap)
+
 -- no gap is above the highest
 under-requires : tie.Need-under-requires
 under-requires c κs =
-    let s = c .before .before .before in
-    (s .pre .capped .low (32 * s .args .j .0 + s .args .l .0) (omega arith), omega (arith, s .pre .own-cheap))
-
--- the cost is within the limit, so the difference is above 0
-new-is : (c : tie.After-cost-at) → (let a = c .before .before .args in
-    a .own + suc costLimit - c .cost-at .result ≡ gapOver (a .book .now) (a .own) (a .at))
-new-is c = omega (arith, c .cost-at .ensures)
+    let s = c .before .before .before .before in
+    (s .pre .capped .low (32 * s .args .j .0 + s .args .l .0) (omega arith), omega (arith, new-is (c .before), s .pre .own-cheap))
 
 returns : tie.Need-returns
 returns c =
@@ -30,9 +29,9 @@ pub lower-spec : {M : Type 1} → statement M
 lower-spec =
     tie.close
     (tie.spec
-    (λ c. search needs)
+    (λ c. omega (arith, c .before .pre .own-cheap))
     (λ c κs. search needs)
-    (λ c. omega (arith, c .cost-at .ensures, c .before .before .pre .cheap))
+    (λ c κs. search needs)
     (λ c. search needs)
     (λ c. search needs)
     (λ c. search needs)

@@ -25,7 +25,7 @@ module _ (c : tie.After-enum-told) where
   abbrev bytes : List ℕ
   bytes = start .args .order .now
 
-  opens : readOpening orderMark bytes ≡ gives tt
+  opens : readOpening orderMark 1 bytes ≡ gives tt
   opens = sym (c .before .before .read-opening .ensures) ∙ ap statedStep (c .enum-told .given .1)
 
 -- and as many bytes as its count says

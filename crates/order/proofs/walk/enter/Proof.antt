@@ -5,10 +5,9 @@ use Prim.Native.Nat.{ℕ, _+_, _*_, _≤_, _<_}
 use native.Mathlib.Omega.{arith}
 use borrow.Author.Needs.{needs}
 use borrow.Author.Tests.{lt-ltb}
-use Rattle.specification.specs.Costs.{costLimit}
+use Rattle.specification.specs.Costs.{costTop}
 use Rattle.specification.specs.Book.{bit}
-use Rattle.specification.specs.Bytes.{u32At}
-use Rattle.book.specs.Table.{entry}
+use Rattle.book.specs.Table.{entry, raisedAt}
 use Rattle.words.proofs.Sets.{bit-and}
 use Rattle.order.specs.Gaps.{gapOver, tableGap}
 use Rattle.order.proofs.walk.enter.Statement.{statement}
@@ -19,10 +18,10 @@ module _ (c : tie.After-start-of) where
   abbrev start : tie.Start
   start = c .before .before .before
 
-  own-is : c .before .cost-of .result ≡ u32At (start .args .book .now) (entry (start .args .offsets .now) (start .args .i .0) (start .args .j .0))
+  own-is : c .before .cost-of .result ≡ raisedAt (start .args .book .now) (entry (start .args .offsets .now) (start .args .i .0) (start .args .j .0))
   own-is = c .before .cost-of .ensures
 
-  own-cheap : c .before .cost-of .result ≤ costLimit
+  own-cheap : c .before .cost-of .result ≤ costTop
   own-cheap = omega (
     arith,
     own-is,
