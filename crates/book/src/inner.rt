@@ -11,7 +11,7 @@ ghost use lib.Dec.{leb};
 ghost use lib.ListN.{length, drop, getD};
 ghost use Rattle.transport.specs.Finder.{every, size};
 ghost use Rattle.specification.specs.Bytes.{u32At};
-ghost use Rattle.specification.specs.Costs.{liftedCost};
+ghost use Rattle.specification.specs.Costs.{costBase, liftedCost};
 ghost use Rattle.specification.specs.Book.{rowCost, bookVersion, bookLots, rowStart, problemOf};
 ghost use Rattle.book.specs.Pairs.{readable, offsetTable};
 ghost use Rattle.book.specs.Table.{entry, raisedAt, admitsBy, CanRead, WithRow, SetFrom};
@@ -158,6 +158,13 @@ pub fn version_of(book: &[u8]) -> u16
     ensures { λ r. ⌜ r ≡ bookVersion (now (book .entry)) ⌝ }
 {
     files::u16_at(book, 3)
+}
+
+// What is added to each cost of a book.
+pub fn base_of(book: &[u8]) -> u32
+    ensures { λ r. ⌜ r ≡ costBase (bookVersion (now (book .entry))) ⌝ }
+{
+    super::signed::cost_base(version_of(book))
 }
 
 // Whether none of the `count` 32-bit numbers from byte `start` on, with the base added, is above the limit. It does not stop at the first
