@@ -271,6 +271,10 @@ fn show_rebates() {
         b"CLB\x02\x00\x02\x02\x03\x00\x00\x00\xc0\xbd\xf0\xff\x40\x42\x0f\x00\x03\x00\x00\x00\x40\x42\x0f\x00\xc0\xbd\xf0\xff";
     show_pairs(b"lowest sum first", widest, b"00 11 01 10");
     show_pairs(b"highest sum first", widest, b"01 10 00 11");
+    let alike =
+        b"CLB\x02\x00\x02\x02\x03\x00\x00\x00\x40\x42\x0f\x00\xc0\xbd\xf0\xff\x03\x00\x00\x00\x40\x42\x0f\x00\xc0\xbd\xf0\xff";
+    show_pairs(b"highest first in each lot", alike, b"00 01 10 11");
+    show_pairs(b"lowest first in each lot", alike, b"01 00 11 10");
     show(b"version 2 of an order", widest, b"CLO\x02\x00\x00\x00");
 }
 
