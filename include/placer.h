@@ -12,13 +12,14 @@
  *     uint32_t flow[PLACER_FLOW_MAX];
  *     placer_reply r = placer_find_and_run(book, book_len, amounts, amounts_len, flow, PLACER_FLOW_MAX);
  *     if (r.number != PLACER_ACCEPTED) fprintf(stderr, "refused: %s\n", placer_sentence(r.number));
- *     else printf("%s: %llu units, cost %llu\n", r.verdict == PLACER_SHORT ? "a call lacks units" : "every call is met",
- *                 (unsigned long long)r.values[0], (unsigned long long)r.values[1]);
+ *     else printf("%s: %llu units, cost %lld\n", r.verdict == PLACER_SHORT ? "a call lacks units" : "every call is met",
+ *                 (unsigned long long)r.values[0], (long long)(int64_t)r.values[1]);
  *
- * Files are byte strings that the caller holds: a pointer and a length. They open with a mark of three letters, version 1 in two bytes,
+ * Files are byte strings that the caller holds: a pointer and a length. They open with a mark of three letters, the version in two bytes,
  * and two bytes of counts; integers are little-endian, the lowest byte first.
  *   book     "CLB" 1 0 n m; for each of n lots a 32-bit word, bit j set if call j is eligible, and a 32-bit cost for each set bit,
- *            lowest bit first. n and m are 1 to 32, a cost is 0 to 1,000,000 hundredths of a cent per unit.
+ *            lowest bit first. n and m are 1 to 32, a cost is 0 to 1,000,000 hundredths of a cent per unit. Version 2, "CLB" 2 0 n m,
+ *            differs in the costs: they are signed, two's complement, -1,000,000 to 1,000,000, below 0 where a rebate is paid.
  *   amounts  "CLA" 1 0 n m; n lot amounts and m call amounts, 32 bits each, 0 to 1,000,000,000 units.
  *   order    "CLO" 1 0, a 16-bit count of pairs; for each pair a byte for its lot and one for its call. Lots and calls count from 0.
  *
@@ -48,12 +49,13 @@ extern "C" {
 #define PLACER_VERSION_MAJOR 1
 #define PLACER_VERSION_MINOR 0
 #define PLACER_VERSION_PATCH 0
-#define PLACER_VERSION "1.0.0" /* of the library; the files' version is 1 */
+#define PLACER_VERSION "1.0.0" /* of the library; the files have versions of their own */
 
 #define PLACER_LOTS_MAX 32
 #define PLACER_CALLS_MAX 32
 #define PLACER_PAIRS_MAX 1024
 #define PLACER_COST_MAX 1000000      /* hundredths of a cent per unit */
+#define PLACER_COST_MIN (-1000000)   /* in a book of version 2; in one of version 1 it is 0 */
 #define PLACER_AMOUNT_MAX 1000000000 /* units */
 #define PLACER_BOOK_MAX 4231         /* bytes of the largest book, order and amounts file */
 #define PLACER_ORDER_MAX 2055
@@ -66,11 +68,11 @@ enum placer_number {
     PLACER_ACCEPTED = 0,
     PLACER_UNDER_SEVEN = 1,         /* a file is under 7 bytes */
     PLACER_MARK_DIFFERS = 2,        /* a file does not open with its mark */
-    PLACER_VERSION_NOT_ONE = 3,     /* a file's version is not 1 */
+    PLACER_VERSION_NOT_ONE = 3,     /* a file's version is not 1; of a book: neither 1 nor 2 */
     PLACER_COUNT_OUTSIDE = 4,       /* the book's n or m is 0 or above 32 */
     PLACER_BIT_OUTSIDE = 5,         /* an eligibility bit m or higher is set [lot] */
     PLACER_ENDS_EARLY = 6,          /* a file ends before its last field */
-    PLACER_COST_TOO_HIGH = 7,       /* a cost is above 1,000,000 [lot, call] */
+    PLACER_COST_TOO_HIGH = 7,       /* a cost is above 1,000,000 or, in a book of version 2, below -1,000,000 [lot, call] */
     PLACER_BYTES_AFTER = 8,         /* a file has bytes after its last field */
     PLACER_PAIR_NOT_ELIGIBLE = 9,   /* a pair of the order is not in the book or not eligible [place in the order, from 0] */
     PLACER_PAIR_MET_BEFORE = 10,    /* a pair stands twice in the order [its second place] */
@@ -96,7 +98,8 @@ enum placer_verdict {
 
 /* What a call answers. `number` is PLACER_ACCEPTED or a refusal's number. `verdict` is PLACER_FULL, PLACER_COVERED or PLACER_SHORT where
  * a run is accepted, else PLACER_NO_RUN. `values`: as each call says where it accepts, as the list of refusals says where it refuses; the
- * others 0. */
+ * others 0. A cost, of a run or of a pair, is a 64-bit two's complement number, (int64_t)r.values[1]; it is below 0 only with a book of
+ * version 2. All other values are unsigned. */
 typedef struct {
     uint32_t number;
     uint32_t verdict;
@@ -168,7 +171,8 @@ placer_reply placer_read_book(const uint8_t *book, size_t book_len);
  *   refused         the book's numbers, the amounts' */
 placer_reply placer_read_amounts(const uint8_t *book, size_t book_len, const uint8_t *amounts, size_t amounts_len);
 
-/* placer_lot_costs: where a lot's costs stand in the book, 32 bits each, in the sequence of the lot's eligible calls.
+/* placer_lot_costs: where a lot's costs stand in the book, 32 bits each, in the sequence of the lot's eligible calls; signed in a book of
+ * version 2 (its byte 3).
  *   book      read; nothing is copied
  *   lot       any number
  *   returns   the stretch; 0, 0 where it is empty: the book is refused, the lot is n or more, or no call is eligible for it */
@@ -188,11 +192,11 @@ static inline const char *placer_sentence(uint32_t number)
         "accepted",
         "a file is under 7 bytes",
         "a file does not open with its mark",
-        "a file's version is not 1",
+        "a file's version is not 1 (of a book: neither 1 nor 2)",
         "the book's count of lots or calls is 0 or above 32",
         "an eligibility bit is set for a call that the book does not have",
         "a file ends before its last field",
-        "a cost is above 1,000,000",
+        "a cost is above 1,000,000 (in a book of version 2: or below -1,000,000)",
         "a file has bytes after its last field",
         "a pair of the order is not in the book or not eligible",
         "a pair stands twice in the order",

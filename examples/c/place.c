@@ -47,7 +47,7 @@ int main(void)
 
     placer_reply placed = placer_run_order(book, sizeof book, order, order_len, amounts, sizeof amounts, flow, PLACER_FLOW_MAX);
     if (refused(placed)) return 2;
-    printf("%s %" PRIu64 " %" PRIu64 "\n", word(placed.verdict), placed.values[0], placed.values[1]);
+    printf("%s %" PRIu64 " %" PRId64 "\n", word(placed.verdict), placed.values[0], (int64_t)placed.values[1]); /* a cost is signed */
 
     placer_reply size = placer_read_book(book, sizeof book);
     for (uint64_t lot = 0; lot < size.values[0]; lot++)

@@ -10,9 +10,10 @@
 //! ```
 use placer::{find_order, read_book, run_order, Refusal, Verdict, FLOW_MAX, ORDER_MAX};
 
-/// A book file: for each lot its costs by call, `None` where the pair is not eligible.
-fn book_file(costs: &[&[Option<u32>]]) -> Vec<u8> {
-    let mut file = vec![b'C', b'L', b'B', 1, 0, costs.len() as u8, costs[0].len() as u8];
+/// A book file: for each lot its costs by call, `None` where the pair is not eligible. It is of version 2 where a cost is below 0.
+fn book_file(costs: &[&[Option<i32>]]) -> Vec<u8> {
+    let version = if costs.iter().any(|row| row.iter().flatten().any(|&cost| cost < 0)) { 2 } else { 1 };
+    let mut file = vec![b'C', b'L', b'B', version, 0, costs.len() as u8, costs[0].len() as u8];
     for row in costs {
         let word: u32 = row.iter().enumerate().filter(|(_, cost)| cost.is_some()).map(|(call, _)| 1 << call).sum();
         file.extend(word.to_le_bytes());

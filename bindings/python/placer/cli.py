@@ -31,7 +31,8 @@ everything can be met.
 FILES are three CSV tables or two binary files:
   PAIRS LOTS CALLS   tables with the header lines lot,call,cost and lot,amount and call,amount;
                      a pair that is absent is not eligible; costs are whole hundredths of a cent
-                     per unit, 0 to 1,000,000, amounts whole units, 0 to 1,000,000,000
+                     per unit, -1,000,000 to 1,000,000, below 0 for a rebate, amounts whole units,
+                     0 to 1,000,000,000
   BOOK AMOUNTS       a book (.clb) and an amounts file (.cla), as `placer encode` writes them
 One of the files may be -, standard input. Lots and calls are at most 32 each.
 

@@ -51,7 +51,7 @@ class Placing:
     Attributes:
         verdict: whether everything, or every call, is met.
         units: how many units were placed; no allocation has more.
-        cost: the sum of units times cost, in hundredths of a cent.
+        cost: the sum of units times cost, in hundredths of a cent; below 0 where rebates outweigh.
         flow: the units of each pair: `flow[lot][call]`, 0 where not eligible.
     """
 
@@ -98,7 +98,7 @@ def lot_costs(book: BytesLike, lot: int) -> memoryview:
     """Return the costs of one lot: that stretch of the caller's own book, not copied.
 
     Returns:
-        A view of the book, one 32-bit cost for each eligible call, lowest call first.
+        A view of the book, one 32-bit cost for each eligible call, lowest call first, signed if the book is of version 2.
         It is empty if the book is refused, if the lot number is n or more, or if the lot is eligible for no call.
 
     Raises:
@@ -113,7 +113,13 @@ def lot_costs(book: BytesLike, lot: int) -> memoryview:
         []
     """
     _sized("lot", lot)
-    return memoryview(book).cast("B")[_library.stretch(_library.lend(book), lot)].cast("I")
+    view = memoryview(book).cast("B")
+    return view[_library.stretch(_library.lend(book), lot)].cast("i" if view[3:4] == b"\x02" else "I")
+
+
+def _signed(cost: int) -> int:
+    """Return a cost with its sign, of its 64 bits."""
+    return ctypes.c_int64(cost).value
 
 
 def pair_cost(book: BytesLike, lot: int, call: int) -> Optional[int]:
@@ -127,12 +133,12 @@ def pair_cost(book: BytesLike, lot: int, call: int) -> Optional[int]:
         ValueError: a number is below 0 or does not fit 64 bits.
 
     Examples:
-        >>> book = book_bytes([[1, None], [3, 5]])
+        >>> book = book_bytes([[1, None], [-3, 5]])
         >>> pair_cost(book, 1, 0), pair_cost(book, 0, 1), pair_cost(book, 2, 0)
-        (3, None, None)
+        (-3, None, None)
     """
     eligible, cost = _library.call("pair_cost", _library.lend(book), (_sized("lot", lot), _sized("call", call)))[1][:2]
-    return cost if eligible else None
+    return _signed(cost) if eligible else None
 
 
 def read_amounts(book: BytesLike, amounts: BytesLike) -> Counts:
@@ -208,7 +214,7 @@ def _placing(name: str, flow: Optional[Writable], book: BytesLike, *files: Bytes
     lots, calls = slices[0][0][5:7]
     units = memoryview(lent[0]).cast("B").cast("I")
     rows = tuple(tuple(units[lot * calls : (lot + 1) * calls]) for lot in range(lots))
-    return Placing(Verdict(verdict), values[0], values[1], rows)
+    return Placing(Verdict(verdict), values[0], _signed(values[1]), rows)
 
 
 def run_order(book: BytesLike, order: BytesLike, amounts: BytesLike, flow: Optional[Writable] = None) -> Placing:
@@ -277,7 +283,8 @@ def place(costs: Costs, lots: Sequence[int], calls: Sequence[int], *, idle: bool
     """Place lots to calls.
 
     Args:
-        costs: for each lot in turn the cost of each call, whole hundredths of a cent per unit; None where not eligible.
+        costs: for each lot in turn the cost of each call, whole hundredths of a cent per unit, below 0 for a rebate; None where not
+            eligible.
         lots: what each lot has, in whole units.
         calls: what each call asks for.
         idle: whether to make, with stock to spare, the cheapest choice of what stays in the box, as `find_and_run_idle` does.
@@ -300,6 +307,8 @@ def place(costs: Costs, lots: Sequence[int], calls: Sequence[int], *, idle: bool
         Placing(verdict=Verdict.SHORT, units=0, cost=0, flow=((0, 0), (0, 0)))
         >>> place([[3, 5], [1, 2]], [3, 4], [3, 2], idle=True)
         Placing(verdict=Verdict.COVERED, units=5, cost=9, flow=((1, 0), (2, 2)))
+        >>> place([[1, -2], [-3, 5]], [5, 4], [3, 6])
+        Placing(verdict=Verdict.FULL, units=9, cost=-14, flow=((0, 5), (3, 1)))
     """
     run = find_and_run_idle if idle else find_and_run
     return run(book_bytes(costs), amounts_bytes(lots, calls))

@@ -9,18 +9,19 @@ from typing import Iterable, Optional, Sequence, Tuple
 Costs = Sequence[Sequence[Optional[int]]]
 
 
-def _opening(mark: bytes, last: bytes) -> bytes:
-    return mark + b"\x01\x00" + last
+def _opening(mark: bytes, last: bytes, version: int = 1) -> bytes:
+    return mark + struct.pack("<H", version) + last
 
 
-def words(numbers: Iterable[int]) -> bytes:
+def words(numbers: Iterable[int], signed: bool = False) -> bytes:
     """Return the bytes of 32-bit numbers."""
     whole = [operator.index(number) for number in numbers]
     try:
-        return struct.pack(f"<{len(whole)}I", *whole)
+        return struct.pack(f"<{len(whole)}{'i' if signed else 'I'}", *whole)
     except struct.error:
-        outside = next(number for number in whole if not 0 <= number < 2**32)
-        raise ValueError(f"{outside} is outside the limits: costs are 0 to 1,000,000, amounts 0 to 1,000,000,000") from None
+        least = -(2**31) if signed else 0
+        outside = next(number for number in whole if not least <= number < least + 2**32)
+        raise ValueError(f"{outside} is outside the limits: costs are -1,000,000 to 1,000,000, amounts 0 to 1,000,000,000") from None
 
 
 def _small(numbers: Iterable[int]) -> bytes:
@@ -32,7 +33,7 @@ def _small(numbers: Iterable[int]) -> bytes:
 
 
 def book_bytes(costs: Costs) -> bytes:
-    """Make a book file.
+    """Make a book file: of version 2 if a cost is below 0, a rebate, else of version 1.
 
     Args:
         costs: for each lot in turn the cost of each call, whole hundredths of a cent per unit; None where not eligible.
@@ -47,15 +48,18 @@ def book_bytes(costs: Costs) -> bytes:
     Examples:
         >>> book_bytes([[1, 2], [3, 5]]).hex(" ", 4)
         '434c42 01000202 03000000 01000000 02000000 03000000 03000000 05000000'
+        >>> book_bytes([[-1]]).hex(" ", 4)
+        '434c42 02000101 01000000 ffffffff'
     """
     calls = len(costs[0]) if costs else 0
-    parts = [_opening(b"CLB", _small([len(costs), calls]))]
+    signed = any(operator.index(cost) < 0 for row in costs for cost in row if cost is not None)
+    parts = [_opening(b"CLB", _small([len(costs), calls]), 2 if signed else 1)]
     for lot, row in enumerate(costs):
         if len(row) != calls:
             raise ValueError(f"lot {lot} has {len(row)} costs, lot 0 has {calls}")
         word = sum(1 << call for call, cost in enumerate(row) if cost is not None)
         # Of more than 32 calls the word holds the first 32: such a book is refused before its words are read.
-        parts.append(words([word % 2**32, *(cost for cost in row if cost is not None)]))
+        parts.append(words([word % 2**32]) + words((cost for cost in row if cost is not None), signed))
     return b"".join(parts)
 
 

@@ -10,9 +10,9 @@ from .entry_points import read_book
 from .refused import Cause, Refused
 
 
-def numbers(data: bytes) -> List[int]:
+def numbers(data: bytes, signed: bool = False) -> List[int]:
     """Return the 32-bit numbers of some bytes."""
-    return list(struct.unpack(f"<{len(data) // 4}I", data))
+    return list(struct.unpack(f"<{len(data) // 4}{'i' if signed else 'I'}", data))
 
 
 def _opened(data: BytesLike, mark: bytes) -> bytes:
@@ -42,8 +42,8 @@ def book_costs(book: BytesLike) -> List[List[Optional[int]]]:
 
     Examples:
         >>> from placer import book_bytes
-        >>> book_costs(book_bytes([[1, None], [None, 5]]))
-        [[1, None], [None, 5]]
+        >>> book_costs(book_bytes([[1, None], [None, -5]]))
+        [[1, None], [None, -5]]
     """
     lots, calls = read_book(book)
     file = memoryview(book).tobytes()
@@ -52,7 +52,7 @@ def book_costs(book: BytesLike) -> List[List[Optional[int]]]:
     for _ in range(lots):
         word = numbers(file[at : at + 4])[0]
         end = at + 4 + 4 * bin(word).count("1")
-        costs = iter(numbers(file[at + 4 : end]))
+        costs = iter(numbers(file[at + 4 : end], signed=file[3] == 2))
         rows.append([next(costs) if word >> call & 1 else None for call in range(calls)])
         at = end
     return rows

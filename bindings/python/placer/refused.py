@@ -34,11 +34,11 @@ class Cause(enum.IntEnum):
 _SENTENCES = {
     Cause.UNDER_SEVEN: "the file has under 7 bytes",
     Cause.MARK_DIFFERS: "the file does not open with its mark (a book with CLB, an order with CLO, amounts with CLA)",
-    Cause.VERSION_NOT_ONE: "the file's version is not 1",
+    Cause.VERSION_NOT_ONE: "the file's version is not 1 (of a book: neither 1 nor 2)",
     Cause.COUNT_OUTSIDE: "the book's count of lots or calls is 0 or above 32",
     Cause.BIT_OUTSIDE: "lot {} is marked eligible for a call that the book does not have",
     Cause.ENDS_EARLY: "the file ends before its last field",
-    Cause.COST_TOO_HIGH: "the cost of lot {}, call {} is above 1,000,000",
+    Cause.COST_TOO_HIGH: "the cost of lot {}, call {} is above 1,000,000 (in a book of version 2: or below -1,000,000)",
     Cause.BYTES_AFTER: "the file has bytes after its last field",
     Cause.PAIR_NOT_ELIGIBLE: "the pair at place {} of the order is not in the book or not eligible",
     Cause.PAIR_MET_BEFORE: "the pair at place {} of the order was met before",
@@ -64,7 +64,7 @@ class Refused(ValueError):
 
     Examples:
         >>> str(Refused(7, (0, 3)))
-        'refused 7: the cost of lot 0, call 3 is above 1,000,000'
+        'refused 7: the cost of lot 0, call 3 is above 1,000,000 (in a book of version 2: or below -1,000,000)'
         >>> Refused(13).cause
         <Cause.NO_ORDER: 13>
     """

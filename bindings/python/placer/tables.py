@@ -79,14 +79,17 @@ def _rows(path: str, header: str) -> Iterator[Tuple[int, List[str]]]:
         raise BadInput(path, reader.line_num, str(error)) from None
 
 
-def _whole(path: str, line: int, what: str, text: str, most: int, number: Cause) -> int:
-    """Return a whole number of 0 to `most`."""
-    digits = text.strip()
+def _whole(path: str, line: int, what: str, text: str, most: int, number: Cause, signed: bool = False) -> int:
+    """Return a whole number of 0 to `most`; if signed, of as far below 0 too."""
+    whole = text.strip()
+    below = signed and whole.startswith("-")
+    digits = whole[1:] if below else whole
     if not (digits.isascii() and digits.isdigit()):
         raise BadInput(path, line, f"the {what} {text!r} is not a whole number")
     if len(digits.lstrip("0")) > len(str(most)) or int(digits) > most:
-        raise BadInput(path, line, f"the {what} {digits} is above {most:,} (refusal {number.value})")
-    return int(digits)
+        passed = f"below -{most:,}" if below else f"above {most:,}"
+        raise BadInput(path, line, f"the {what} {whole} is {passed} (refusal {number.value})")
+    return -int(digits) if below else int(digits)
 
 
 def _amounts(path: str, what: str) -> Dict[str, int]:
@@ -113,7 +116,7 @@ def _from_tables(pairs: str, lots: str, calls: str) -> Problem:
                 raise BadInput(pairs, line, f"the {what} {name!r} is not in {path}")
         if (lot, call) in costs:
             raise BadInput(pairs, line, f"the pair {lot!r}, {call!r} stands here a second time")
-        costs[lot, call] = _whole(pairs, line, "cost", cost, COST_MOST, Cause.COST_TOO_HIGH)
+        costs[lot, call] = _whole(pairs, line, "cost", cost, COST_MOST, Cause.COST_TOO_HIGH, signed=True)
     book = book_bytes([[costs.get((lot, call)) for call in asks] for lot in has])
     return Problem(list(has), list(asks), book, amounts_bytes(list(has.values()), list(asks.values())))
 

@@ -10,6 +10,7 @@ ORDER = order_bytes([(0, 1), (0, 0), (1, 0), (1, 1)])
 AMOUNTS = amounts_bytes([5, 4], [3, 6])
 NO_ORDER = [[None if lot == call else 0 for call in range(3)] for lot in range(3)]  # F9
 SPARE = [[3, 5], [1, 2]]  # lot 0 is the dear one
+REBATES = [[1, -2], [-3, 5]]  # needs a book of version 2
 NO_ORDER_IDLE = [[None, 1], [0, 0], [1, None]]  # has an order, and with an idle call none
 
 

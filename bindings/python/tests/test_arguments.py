@@ -11,7 +11,7 @@ from array import array
 
 import placer
 from placer import amounts_bytes, book_bytes, order_bytes
-from support import AMOUNTS, BOOK, F1, Case
+from support import AMOUNTS, BOOK, F1, REBATES, Case
 
 
 class Arguments(Case):
@@ -90,9 +90,9 @@ class Arguments(Case):
 
     def test_lists(self):
         """The makers of files take whole numbers that fit."""
-        for bad in ([[1, 2], [3]], [[-1]], [[2**32]], [[0]] * 256):
+        for bad in ([[1, 2], [3]], [[-1, 2**31]], [[-(2**31) - 1]], [[2**32]], [[0]] * 256):
             self.assertRaises(ValueError, book_bytes, bad)
-        for bad in ([[1.0]], [["1"]], [[float("nan")]]):
+        for bad in ([[1.0]], [[-1.0]], [["1"]], [[float("nan")]]):
             self.assertRaises(TypeError, book_bytes, bad)
         self.assertRaises(ValueError, amounts_bytes, [-1], [1])
         self.assertRaises(TypeError, amounts_bytes, [1.5], [1])
@@ -100,6 +100,17 @@ class Arguments(Case):
         self.assertRaises(ValueError, order_bytes, [(0, 0)] * 65536)
         for costs in ([], [[]], [[0]] * 33):
             self.refused(4, (), placer.place, costs, [0] * len(costs), [])
+
+    def test_versions(self):
+        """A book is of version 2 if a cost is below 0, else of version 1; either is read back as it was made."""
+        for costs, version in ((F1, 1), ([[0]], 1), ([[None]], 1), (REBATES, 2), ([[None, -1]], 2), ([[-1_000_000, 1_000_000]], 2)):
+            book = book_bytes(costs)
+            self.assertEqual((book[3:5], placer.book_costs(book)), (bytes([version, 0]), costs))
+            for lot, row in enumerate(costs):
+                self.assertEqual(list(placer.lot_costs(book, lot)), [cost for cost in row if cost is not None])
+                self.assertEqual([placer.pair_cost(book, lot, call) for call in range(len(row))], row)
+        book = b"CLB\2" + BOOK[4:]  # F1 in version 2, which no cost below 0 asks for
+        self.assertEqual((placer.book_costs(book), placer.find_and_run(book, AMOUNTS)), (F1, placer.find_and_run(BOOK, AMOUNTS)))
 
     def test_placing(self):
         """A placing cannot be changed, compares by value, and says by its verdict what is met."""

@@ -14,7 +14,7 @@ from unittest import mock
 
 import placer
 from placer.cli import main
-from support import AMOUNTS, BOOK, NO_ORDER, NO_ORDER_IDLE, ORDER, SPARE, Case
+from support import AMOUNTS, BOOK, NO_ORDER, NO_ORDER_IDLE, ORDER, REBATES, SPARE, Case
 
 ROOT = Path(placer.__file__).resolve().parents[3]
 TABLES = ["pairs.csv", "lots.csv", "calls.csv"]
@@ -29,8 +29,12 @@ BAD = [
     ("pairs.csv", PAIRS + "Gilt,Clearing A,1\n", "pairs.csv:6: the lot 'Gilt' is not in lots.csv"),
     ("pairs.csv", PAIRS + "Bund 2031,Gilt,1\n", "pairs.csv:6: the call 'Gilt' is not in calls.csv"),
     ("pairs.csv", PAIRS.replace(",5", ",1000001"), "pairs.csv:5: the cost 1000001 is above 1,000,000 (refusal 7)"),
-    ("pairs.csv", PAIRS.replace(",5", ",nan"), "pairs.csv:5: the cost 'nan' is not a whole number"),
-    ("pairs.csv", PAIRS.replace(",5", ",1.5"), "pairs.csv:5: the cost '1.5' is not a whole number"),
+    ("pairs.csv", PAIRS.replace(",5", ",-1000001"), "pairs.csv:5: the cost -1000001 is below -1,000,000 (refusal 7)"),
+    ("pairs.csv", PAIRS.replace(",5", f",-{'9' * 5000}"), f"pairs.csv:5: the cost -{'9' * 5000} is below -1,000,000 (refusal 7)"),
+    *(
+        ("pairs.csv", PAIRS.replace(",5", f",{bad}"), f"pairs.csv:5: the cost {bad!r} is not a whole number")
+        for bad in ("nan", "1.5", "-1.5", "-", "--5", "- 5", "5-", "+5", "\u22125")
+    ),
     ("pairs.csv", PAIRS + '"Bund', "pairs.csv:6: unexpected end of data"),
     ("lots.csv", LOTS + "OAT 2029,1\n", "lots.csv:4: the lot 'OAT 2029' stands here a second time"),
     ("lots.csv", LOTS.replace(",5", ",-5"), "lots.csv:2: the amount '-5' is not a whole number"),
@@ -107,6 +111,27 @@ class Command(Case):
         self.assertEqual(self.run_it("place", "--idle", *TABLES)[::2], (1, "short: 3 units, cost 3\n"))
         self.assertIn("not allowed with argument --idle", self.run_it("place", "--idle", "--order", "order.clo", *TABLES)[2])
 
+    def test_rebates(self):
+        """Costs below 0 make a book of version 2, and the cost is told with its minus; -0 is 0."""
+        names = [line.rpartition(",")[0] for line in PAIRS.splitlines()[1:]]
+        for texts, cost, version in [
+            (["1", "-2", "-3", "5"], -14, 2),
+            ([" 01", " -02 ", "-3", "5"], -14, 2),
+            (["-1000000", "-1000000", "-1000000", "1000000"], -7_000_000, 2),
+            (["-0", "-00", "0", "0"], 0, 1),
+        ]:
+            self.write({"pairs.csv": "lot,call,cost\n" + "".join(f"{name},{text}\n" for name, text in zip(names, texts))})
+            self.assertEqual(self.run_it("place", *TABLES)[::2], (0, f"full: 9 units, cost {cost}\n"))
+            self.assertEqual(self.run_it("encode", "--order", *TABLES), (0, "", ""))
+            versions = [Path(name).read_bytes()[3] for name in ("book.clb", "order.clo", "amounts.cla")]
+            self.assertEqual(versions, [version, 1, 1])
+        self.write({"pairs.csv": PAIRS.replace(",2", ",-2").replace(",3", ",-3"), "lots.csv": LOTS.replace(",5", ",9")})
+        self.run_it("encode", *TABLES)
+        self.assertEqual(Path("book.clb").read_bytes(), placer.book_bytes(REBATES))
+        self.assertEqual(self.run_it("show", "book.clb")[1].splitlines()[1:], ["lot\\call   0   1", "       0   1  -2", "       1  -3   5"])
+        self.assertIn("\na 2 3 0 3 -3\n", self.run_it("dimacs", *TABLES)[1])
+        self.assertEqual(self.run_it("place", "--idle", *TABLES)[::2], (0, "covered: 9 units, cost -21\n"))
+
     def test_idle_refused(self):
         """A refusal with --idle is told of the file that has the cause, and says what to do instead."""
         files = {"spare": (SPARE, [3, 1], [3, 2]), "none": (NO_ORDER_IDLE, [1] * 3, [1] * 2), "neither": (NO_ORDER, [1] * 3, [1] * 3)}
@@ -153,13 +178,14 @@ class Command(Case):
         zeros = placer.amounts_bytes([0] * 3, [0] * 3)
         wrong = placer.order_bytes([(0, 0), (0, 1), (1, 0), (1, 1)])
         self.write({"none.clb": placer.book_bytes(NO_ORDER), "zeros.cla": zeros})
-        self.write({"book.clb": BOOK, "amounts.cla": AMOUNTS, "wrong.clo": wrong})
+        self.write({"book.clb": BOOK, "amounts.cla": AMOUNTS, "wrong.clo": wrong, "third.clb": b"CLB\3" + BOOK[4:]})
         for start, arguments in [
             ("none.clb: refused 13: no order", ["place", "none.clb", "zeros.cla"]),
             ("none.clb: refused 13: no order", ["encode", "--order", "none.clb", "zeros.cla"]),
             ("zeros.cla: refused 15:", ["place", "book.clb", "zeros.cla"]),
             ("wrong.clo: refused 12:", ["place", "book.clb", "amounts.cla", "--order", "wrong.clo"]),
             ("wrong.clo: refused 2:", ["check", "wrong.clo"]),
+            ("third.clb: refused 3: the file's version is not 1 (of a book: neither", ["check", "third.clb"]),
             ("amounts.cla: refused 15:", ["check", "none.clb", "amounts.cla"]),
             ("pairs.csv: neither a book", ["show", "pairs.csv"]),
             ("pairs.csv: a flow of this book has 16 bytes", ["show", "pairs.csv", "--book", "book.clb"]),
@@ -201,9 +227,9 @@ class Command(Case):
     def test_dimacs_solver(self):
         """LEMON finds the same cost of what is exported, with stock to spare that of the run with an idle call."""
         rng = random.Random(4)
-        for spare in [0] * 10 + [500] * 10:
+        for spare, rebate in [(0, 0)] * 10 + [(0, 400_000)] * 10 + [(500, 0)] * 10:
             lots, calls = ([rng.randint(0, 1000) for _ in range(6)] for _ in range(2))
-            costs = [[lot * call for call in calls] for lot in lots]
+            costs = [[lot * call - rebate for call in calls] for lot in lots]
             calls[-1] += max(0, sum(lots) - sum(calls))
             lots[-1] += max(0, sum(calls) - sum(lots)) + spare
             self.write({"book.clb": placer.book_bytes(costs), "amounts.cla": placer.amounts_bytes(lots, calls)})

@@ -1,10 +1,10 @@
-"""The known examples F1 to F14 of document 01."""
+"""The known examples F1 to F14 of document 01, and those of the requests."""
 
 import unittest
 
 import placer
 from placer import Verdict, amounts_bytes, book_bytes, order_bytes
-from support import F1, NO_ORDER, NO_ORDER_IDLE, SPARE, Case
+from support import F1, NO_ORDER, NO_ORDER_IDLE, REBATES, SPARE, Case
 
 F6 = [[0, 0], [0, None]]
 MOST = 1_000_000_000
@@ -113,6 +113,21 @@ class Known(Case):
             self.refused(number, (), lambda *of: placer.place(*of, idle=True), costs, lots, calls)
             placer.place(costs, lots, calls)
         self.assertRaises(TypeError, placer.place, SPARE, [3, 4], [3, 2], True)
+
+    def test_rebates(self):
+        """Costs below 0: the least cost may be below 0, or 0, with an idle call too, whose cost is 0 beside them."""
+        self.placed(REBATES, [5, 4], [3, 6], Verdict.FULL, 9, -14, ((0, 5), (3, 1)))
+        self.placed([[-1, 1]], [2], [1, 1], Verdict.FULL, 2, 0)
+        self.placed([[-1_000_000]], [MOST], [MOST], Verdict.FULL, MOST, -(10**15))
+        self.placed([[-1_000_000] * 32] * 32, [MOST] * 32, [MOST] * 32, Verdict.FULL, 32 * MOST, -32 * 10**15)
+        self.placed([[5], [-3]], [2, 2], [2], Verdict.COVERED, 2, 10, ((2,), (0,)))
+        self.idle([[5], [-3]], [2, 2], [2], Verdict.COVERED, 2, -6, ((0,), (2,)))
+        self.idle([[-3], [-5]], [1, 1], [0], Verdict.COVERED, 0, 0, ((0,), (0,)))
+
+    def test_signed_sums(self):
+        """Sums are compared with their signs: unsigned, the first order would fail and the second pass."""
+        self.assertEqual(placer.check_order(*self.order([[-1, 0], [0, 0]], "00 01 10 11")), 4)
+        self.refused(12, (0, 0, 1, 1), placer.check_order, *self.order([[0, 0], [-1, 0]], "00 01 10 11"))
 
     def test_f14(self):
         """Too many calls, and a bit outside."""

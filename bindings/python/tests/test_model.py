@@ -10,13 +10,13 @@ from placer import amounts_bytes, book_bytes, order_bytes
 
 
 def books(count, seed):
-    """Yield random books with gaps, many of which have an order, with amounts of equal and of unequal total."""
+    """Yield random books with gaps, some with rebates, many of which have an order, with amounts of equal and of unequal total."""
     rng = random.Random(seed)
     for turn in range(count):
         lots, calls = rng.randint(1, 5), rng.randint(1, 5)
         rows, columns = ([rng.randint(0, 4) for _ in range(size)] for size in (lots, calls))
-        noise, gaps = (turn % 3) // 2, (0, 0.15, 0.4)[turn % 5 % 3]
-        costs = [[None if rng.random() < gaps else a * b + rng.randint(0, noise) for b in columns] for a in rows]
+        noise, gaps, rebate = (turn % 3) // 2, (0, 0.15, 0.4)[turn % 5 % 3], 9 * (turn // 30 % 2)
+        costs = [[None if rng.random() < gaps else a * b + rng.randint(0, noise) - rebate for b in columns] for a in rows]
         amounts = [rng.randint(0, 5) for _ in rows], [rng.randint(0, 5) for _ in columns]
         gap = sum(amounts[0]) - sum(amounts[1])
         if turn % 2:
@@ -36,7 +36,7 @@ class Model(unittest.TestCase):
 
     def test_books(self):
         """Finder, run and check on the same books, with the finder's order and a shuffled one."""
-        verdicts = Counter()
+        verdicts, below = Counter(), 0
         for rng, costs, amounts in books(400, 1):
             book, file = book_bytes(costs), amounts_bytes(*amounts)
             order = model.find(costs)
@@ -51,6 +51,7 @@ class Model(unittest.TestCase):
                 self.assertEqual(placing, placer.run_order(book, order_bytes(order), file))
                 self.assertEqual(placing.met, model.can_meet_calls(costs, *amounts))
                 verdicts[placing.verdict] += 1
+                below += placing.cost < 0
             pairs = order or model.pairs(costs)
             for _ in range(3):
                 if len(pairs) > 1:
@@ -60,11 +61,11 @@ class Model(unittest.TestCase):
                 self.assertEqual(self.reply(placer.check_order, book, order_bytes(pairs)), failure or len(pairs))
             self.assertEqual(placer.book_costs(book), costs)
             self.assertEqual([[placer.pair_cost(book, lot, call) for call in range(len(row))] for lot, row in enumerate(costs)], costs)
-        self.assertGreater(min(verdicts[verdict] for verdict in placer.Verdict), 50)
+        self.assertGreater(min(below, *(verdicts[verdict] for verdict in placer.Verdict)), 50)
 
     def test_idle(self):
         """With an idle call: the plain version's reply and flow, and the least cost of all allocations that meet every call."""
-        replies, cheaper = Counter(), 0
+        replies, cheaper, below = Counter(), 0, 0
         for _, costs, amounts in books(800, 3):
             book, file, expected = book_bytes(costs), amounts_bytes(*amounts), model.idle(costs, *amounts)
             placing = self.reply(placer.find_and_run_idle, book, file)
@@ -78,9 +79,10 @@ class Model(unittest.TestCase):
             plain = placer.find_and_run(book, file)
             self.assertEqual((plain.verdict, plain.units), (placing.verdict, placing.units))
             cheaper += placing.cost < plain.cost
+            below += placing.cost < 0
             replies[placing.verdict.name] += 1
         self.assertEqual(set(replies), {"FULL", "COVERED", "SHORT", 13, 18})
-        self.assertGreater(min(cheaper, *replies.values()), 30)
+        self.assertGreater(min(cheaper, below, *replies.values()), 30)
 
 
 if __name__ == "__main__":

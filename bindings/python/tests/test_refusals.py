@@ -7,7 +7,7 @@ from array import array
 
 import placer
 from placer import Cause, Refused, amounts_bytes, book_bytes, order_bytes
-from support import AMOUNTS, BOOK, NO_ORDER, NO_ORDER_IDLE, ORDER, SPARE, Case
+from support import AMOUNTS, BOOK, NO_ORDER, NO_ORDER_IDLE, ORDER, REBATES, SPARE, Case
 
 
 def changed(data, at, *new):
@@ -24,11 +24,18 @@ BOOKS = [
     (1, (), BOOK[:6]),
     (2, (), b"CLA" + BOOK[3:]),
     (3, (), changed(BOOK, 4, 1)),
+    (3, (), changed(BOOK, 3, 0)),
+    (3, (), changed(BOOK, 3, 3)),
+    (3, (), changed(BOOK, 3, 2, 1)),
     (4, (), changed(BOOK, 5, 0)),
     (4, (), changed(BOOK, 6, 33)),
     (5, (1,), changed(BOOK, 19 + 3, 128)),
     (6, (), BOOK[:-1]),
     (7, (1, 3), book_bytes([[None] * 4, [None, 0, None, 1_000_001]])),
+    (7, (1, 3), book_bytes([[None] * 4, [None, -1, None, 1_000_001]])),
+    (7, (0, 1), book_bytes([[None, -1_000_001]])),
+    (7, (0, 0), book_bytes([[-(2**31)]])),
+    (7, (0, 1), changed(book_bytes(REBATES), 3, 1)),
     (8, (), BOOK + b"\0"),
 ]
 ORDERS = [
@@ -46,6 +53,7 @@ AMOUNT_FILES = [
     (1, (), b"CLA"),
     (2, (), ORDER),
     (3, (), changed(AMOUNTS, 3, 0)),
+    (3, (), changed(AMOUNTS, 3, 2)),
     (15, (), amounts_bytes([5], [3, 6])),
     (6, (), AMOUNTS[:-1]),
     (8, (), AMOUNTS + b"\0"),
@@ -76,6 +84,7 @@ class Refusals(Case):
         for number, values, file in ORDERS:
             self.refused(number, values, placer.check_order, BOOK, file)
             self.refused(number, values, placer.run_order, BOOK, file, b"", array("I"))
+        self.refused(3, (), placer.check_order, book_bytes(REBATES), changed(ORDER, 3, 2))
         gap = book_bytes([[0, 0], [0, None]])
         self.refused(11, (0, 0, 1, 1), placer.check_order, gap, order((0, 0), (0, 1), (1, 0)))
 

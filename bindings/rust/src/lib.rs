@@ -5,9 +5,10 @@
 //! a run meets every call whenever some allocation does; where some allocation meets everything, so does the run, and none that does costs
 //! less. Both hold whatever the *amounts*. With stock to spare [`find_and_run_idle`] makes the cheapest choice of what stays in the box.
 //!
-//! The three files are byte slices, laid out as `include/placer.h` says. Every function takes any bytes: it accepts, or refuses by the
-//! first [`Refusal`] in the published sequence. A buffer is written only where the call accepts. Nothing is allocated or kept, nothing
-//! panics, and calls may run in any number of threads. A call takes at most 24 KiB of stack. For x86-64 Linux.
+//! The three files are byte slices, laid out as `include/placer.h` says; a book of version 2 may have costs below 0, which are rebates.
+//! Every function takes any bytes: it accepts, or refuses by the first [`Refusal`] in the published sequence. A buffer is written only
+//! where the call accepts. Nothing is allocated or kept, nothing panics, and calls may run in any number of threads. A call takes at most
+//! 24 KiB of stack. For x86-64 Linux.
 //!
 //! Proved: every reply and every buffer, for all inputs; that the order found is good, and that one is found whenever a good one exists.
 //! Trusted: the Rattle checker and compiler, this crate's declarations, rustc and the linker.
@@ -95,8 +96,8 @@ pub struct Placed {
     pub verdict: Verdict,
     /// Units placed.
     pub units: u64,
-    /// Their cost, in hundredths of a cent.
-    pub cost: u64,
+    /// Their cost, in hundredths of a cent. It is below 0 only with a book of version 2.
+    pub cost: i64,
 }
 
 fn accepted<T>(reply: Reply, told: impl FnOnce([usize; 2]) -> T) -> Result<T, Refusal> {
@@ -116,7 +117,7 @@ fn placed(reply: Reply) -> Result<Placed, Refusal> {
         3 => Verdict::Covered,
         _ => Verdict::Short, // 2 is the only number left of a run
     };
-    accepted(reply, |[units, cost]| Placed { verdict, units: units as u64, cost: cost as u64 })
+    accepted(reply, |[units, cost]| Placed { verdict, units: units as u64, cost: cost as i64 })
 }
 
 /// Reads a book: its counts.
@@ -134,8 +135,8 @@ pub fn read_book(book: &[u8]) -> Result<Size, Refusal> {
     size(unsafe { sys::placer_read_book(book.as_ptr(), book.len()) })
 }
 
-/// The stretch of the book with a lot's costs, four bytes each, in the sequence of the lot's eligible calls. It is empty if the book is
-/// refused, the lot is not in it, or no call is eligible for the lot.
+/// The stretch of the book with a lot's costs, four bytes each, in the sequence of the lot's eligible calls; signed in a book of version 2
+/// (its byte 3). It is empty if the book is refused, the lot is not in it, or no call is eligible for the lot.
 ///
 /// ```
 /// let book = b"CLB\x01\0\x02\x02\x03\0\0\0\x01\0\0\0\x02\0\0\0\x03\0\0\0\x03\0\0\0\x05\0\0\0";
@@ -158,10 +159,14 @@ pub fn lot_costs(book: &[u8], lot: usize) -> &[u8] {
 /// assert_eq!(placer::pair_cost(book, 0, 0), Ok(None));
 /// assert_eq!(placer::pair_cost(book, 1, 1), Ok(None));
 /// assert_eq!(placer::pair_cost(&book[..14], 0, 1), Err(placer::Refusal::EndsEarly));
+///
+/// // In a book of version 2 a cost may be below 0: a rebate.
+/// let book = b"CLB\x02\0\x01\x01\x01\0\0\0\xfd\xff\xff\xff";
+/// assert_eq!(placer::pair_cost(book, 0, 0), Ok(Some(-3)));
 /// ```
-pub fn pair_cost(book: &[u8], lot: usize, call: usize) -> Result<Option<u32>, Refusal> {
+pub fn pair_cost(book: &[u8], lot: usize, call: usize) -> Result<Option<i64>, Refusal> {
     let reply = unsafe { sys::placer_pair_cost(book.as_ptr(), book.len(), lot, call) };
-    accepted(reply, |[eligible, cost]| (eligible == 1).then_some(cost as u32))
+    accepted(reply, |[eligible, cost]| (eligible == 1).then_some(cost as i64))
 }
 
 /// Reads amounts with their book: the counts.
@@ -318,5 +323,51 @@ mod tests {
         let mut flow = [8; 6];
         assert_eq!(find_and_run_idle(book, &amounts, &mut flow), Err(Refusal::NoOrder));
         assert_eq!(flow, [8; 6]);
+    }
+
+    /// A book of version 2 with two lots and two calls, all eligible at these costs.
+    fn rebates(costs: [[i32; 2]; 2]) -> [u8; 31] {
+        let mut book = [0; 31];
+        book[..7].copy_from_slice(b"CLB\x02\0\x02\x02");
+        for (lot, row) in costs.iter().enumerate() {
+            let at = 7 + 12 * lot;
+            book[at] = 3;
+            for (call, cost) in row.iter().enumerate() {
+                book[at + 4 + 4 * call..][..4].copy_from_slice(&cost.to_le_bytes());
+            }
+        }
+        book
+    }
+
+    #[test]
+    fn costs_below_zero() {
+        // F1 with rebates
+        let (book, mut flow) = (rebates([[1, -2], [-3, 5]]), [8; 5]);
+        let amounts = b"CLA\x01\0\x02\x02\x05\0\0\0\x04\0\0\0\x03\0\0\0\x06\0\0\0";
+        let placed = find_and_run(&book, amounts, &mut flow).unwrap();
+        assert_eq!((placed.verdict, placed.units, placed.cost, flow), (Verdict::Full, 9, -14, [0, 5, 3, 1, 8]));
+        assert_eq!([(0, 0), (0, 1), (1, 0), (1, 1)].map(|(i, j)| pair_cost(&book, i, j)), [1, -2, -3, 5].map(|cost| Ok(Some(cost))));
+        assert_eq!(lot_costs(&book, 1), b"\xfd\xff\xff\xff\x05\0\0\0");
+
+        // the order found is of version 1, and of version 2 it is refused
+        let mut order = [0; 15];
+        assert_eq!((find_order(&book, &mut order), &order[..5]), (Ok(15), &b"CLO\x01\0"[..]));
+        assert_eq!(run_order(&book, &order, amounts, &mut flow), Ok(placed));
+        order[3] = 2;
+        assert_eq!(check_order(&book, &order), Err(Refusal::VersionNotOne));
+    }
+
+    #[test]
+    fn costs_of_each_version() {
+        let read = |version, cost: i32| {
+            let mut book = rebates([[0, 0], [0, cost]]);
+            book[3] = version;
+            read_book(&book).map(|_| pair_cost(&book, 1, 1).unwrap().unwrap())
+        };
+        let outside = Err(Refusal::CostTooHigh { lot: 1, call: 1 });
+        assert_eq!([-1_000_000, -1, 0, 1_000_000].map(|cost| read(2, cost)), [-1_000_000, -1, 0, 1_000_000].map(Ok));
+        assert_eq!([-1_000_001, 1_000_001, i32::MIN, i32::MAX].map(|cost| read(2, cost)), [outside; 4]);
+        assert_eq!([-1_000_000, -1, 1_000_001, i32::MIN].map(|cost| read(1, cost)), [outside; 4]);
+        assert_eq!([0, 3, 255].map(|version| read(version, 0)), [Err(Refusal::VersionNotOne); 3]);
     }
 }

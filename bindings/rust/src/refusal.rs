@@ -11,7 +11,7 @@ pub enum Refusal {
     UnderSeven,
     /// 2: a file does not open with its mark.
     MarkDiffers,
-    /// 3: a file's version is not 1.
+    /// 3: a file's version is not 1; of a book, neither 1 nor 2.
     VersionNotOne,
     /// 4: the book's count of lots or calls is 0 or above 32.
     CountOutside,
@@ -19,7 +19,7 @@ pub enum Refusal {
     BitOutside { lot: usize },
     /// 6: a file ends before its last field.
     EndsEarly,
-    /// 7: the cost of this lot and call is above 1,000,000.
+    /// 7: the cost of this lot and call is above 1,000,000 or, in a book of version 2, below -1,000,000.
     CostTooHigh { lot: usize, call: usize },
     /// 8: a file has bytes after its last field.
     BytesAfter,
@@ -104,11 +104,13 @@ impl fmt::Display for Refusal {
         match self {
             Refusal::UnderSeven => write!(f, "a file is under 7 bytes"),
             Refusal::MarkDiffers => write!(f, "a file does not open with its mark"),
-            Refusal::VersionNotOne => write!(f, "a file's version is not 1"),
+            Refusal::VersionNotOne => write!(f, "a file's version is not 1 (of a book: neither 1 nor 2)"),
             Refusal::CountOutside => write!(f, "the book's count of lots or calls is 0 or above 32"),
             Refusal::BitOutside { lot } => write!(f, "lot {lot} has an eligibility bit for a call that the book does not have"),
             Refusal::EndsEarly => write!(f, "a file ends before its last field"),
-            Refusal::CostTooHigh { lot, call } => write!(f, "the cost of lot {lot} and call {call} is above 1,000,000"),
+            Refusal::CostTooHigh { lot, call } => {
+                write!(f, "the cost of lot {lot} and call {call} is above 1,000,000 (in a book of version 2: or below -1,000,000)")
+            }
             Refusal::BytesAfter => write!(f, "a file has bytes after its last field"),
             Refusal::PairNotEligible { place } => write!(f, "pair {place} of the order is not in the book or not eligible"),
             Refusal::PairMetBefore { place } => write!(f, "pair {place} of the order was met before"),

@@ -1,5 +1,5 @@
-// Reads F13 and F14 of document 01 and damaged books and amounts, and writes what each reading answers: one line a case, with the name of
-// the example or the label of docs/TRAPS.md.
+// Reads F13 and F14 of document 01, damaged books and amounts, and books of version 2 (document 02, request 4), and writes what each reading
+// answers: one line a case, with the name of the example or the label of docs/TRAPS.md.
 use book::Cost;
 use specification::Call;
 use specification::Counts;
@@ -19,6 +19,10 @@ const SINGLE_AND_A_BYTE: [u8; 16] = *b"CLB\x01\x00\x01\x01\x01\x00\x00\x00\x07\x
 // 2 by 3: lot 0 is eligible for calls 0 and 2, at costs 10 and 12, and lot 1 for none.
 const TWO_BY_THREE: [u8; 23] =
     *b"CLB\x01\x00\x02\x03\x05\x00\x00\x00\x0a\x00\x00\x00\x0c\x00\x00\x00\x00\x00\x00\x00";
+
+// 1 by 3 in version 2, costs -3, 0 and 7.
+const REBATE: [u8; 23] =
+    *b"CLB\x02\x00\x01\x03\x07\x00\x00\x00\xfd\xff\xff\xff\x00\x00\x00\x00\x07\x00\x00\x00";
 
 // Puts a 32-bit number at an offset, if it fits there.
 fn put(file: &mut [u8; 4300], at: usize, x: u32) {
@@ -51,6 +55,13 @@ fn largest() -> [u8; 4300] {
     for i in 0..32 {
         put(&mut file, 7 + 132 * i, 0xffffffff);
     }
+    file
+}
+
+// 1 by 1, of a version, which stands before the two bytes of n and m, with a cost of these 32 bits.
+fn single_of(version: u16, cost: u32) -> [u8; 4300] {
+    let mut file = file_of(&files::BOOK_MARK, 1, 1, 1, cost, 0);
+    put(&mut file, 3, 0x01010000 + version as u32);
     file
 }
 
@@ -112,6 +123,12 @@ fn case(point: u64, counts: Counts) {
 fn book(point: u64, n: u8, m: u8, len: usize, a: u32, b: u32, c: u32) {
     let file = file_of(&files::BOOK_MARK, n, m, a, b, c);
     case(point, book::read_book(first(&file, len)));
+}
+
+// A book of a version, 1 by 1, with a cost of these 32 bits.
+fn of_version(point: u64, version: u16, cost: u32) {
+    let file = single_of(version, cost);
+    case(point, book::read_book(first(&file, 15)));
 }
 
 // The first `len` bytes of amounts, with a book.
@@ -223,10 +240,44 @@ fn amounts_files() {
     amounts(37, b"CLB\x01\x00\x01\x01\x02\x00\x00\x00", 0, 0, 7, 0, 0);
 }
 
+// The same bits as a cost in version 1 and in version 2.
+fn both_versions(cost: u32) {
+    of_version(86, 1, cost);
+    of_version(86, 2, cost);
+}
+
+fn signed_costs() {
+    both_versions(1000000);
+    both_versions(1000001);
+    both_versions(0x80000000);
+    both_versions(0xfff0bdbf);
+    both_versions(0xfff0bdc0);
+    both_versions(0xffffffff);
+}
+
+fn versions() {
+    of_version(87, 0, 0);
+    of_version(87, 2, 0);
+    of_version(87, 3, 0);
+    of_version(87, 258, 0);
+    amounts(87, &REBATE, 1, 3, 23, 0, 0);
+    case(87, amounts::read_amounts(&REBATE, b"CLA\x02\x00\x01\x03"));
+}
+
+fn rebates() {
+    pair(88, &REBATE, Lot(0), Call(0));
+    pair(88, &REBATE, Lot(0), Call(1));
+    pair(88, &REBATE, Lot(0), Call(2));
+    costs(89, &REBATE, Lot(0));
+}
+
 fn main() {
     openings();
     rows();
     limits();
     lots_and_pairs();
     amounts_files();
+    signed_costs();
+    versions();
+    rebates();
 }

@@ -1,5 +1,5 @@
-// The files of document 01's known examples, F1 to F14, of a lot that is eligible for no call, amounts with stock to spare, and the files of
-// the runs with an idle call (document 02, request 2).
+// The files of document 01's known examples, F1 to F14, of a lot that is eligible for no call, amounts with stock to spare, the files of the
+// runs with an idle call (document 02, request 2), and books with rebates (request 4).
 
 // 2 by 2, costs 1 2 / 3 5
 pub const F1_BOOK: [u8; 31] =
@@ -126,6 +126,28 @@ pub const WIDE_BOOK: [u8; 15] = *b"CLB\x01\0\x01\x1f\0\0\0\x40\x05\0\0\0";
 
 // and 1 by 32
 pub const WIDEST_BOOK: [u8; 15] = *b"CLB\x01\0\x01\x20\0\0\0\x40\x05\0\0\0";
+
+// F1's book in version 2, costs 1 -2 / -3 5
+pub const REBATES_BOOK: [u8; 31] =
+    *b"CLB\x02\0\x02\x02\x03\0\0\0\x01\0\0\0\xfe\xff\xff\xff\x03\0\0\0\xfd\xff\xff\xff\x05\0\0\0";
+
+// 2 by 1, in version 2, costs 5 / -3
+pub const ONE_REBATE_BOOK: [u8; 23] =
+    *b"CLB\x02\0\x02\x01\x01\0\0\0\x05\0\0\0\x01\0\0\0\xfd\xff\xff\xff";
+
+// lots 2 2, call 2
+pub const ONE_REBATE_AMOUNTS: [u8; 19] = *b"CLA\x01\0\x02\x01\x02\0\0\0\x02\0\0\0\x02\0\0\0";
+
+// 1 by 1, in version 2, cost -1,000,000
+pub const LOWEST_BOOK: [u8; 15] = *b"CLB\x02\0\x01\x01\x01\0\0\0\xc0\xbd\xf0\xff";
+
+// F10's book in version 3
+pub const BOOK_3: [u8; 11] = *b"CLB\x03\0\x01\x01\0\0\0\0";
+
+// F1's order and amounts in version 2
+pub const ORDER_2: [u8; 15] = *b"CLO\x02\0\x04\0\0\x01\0\0\x01\0\x01\x01";
+
+pub const AMOUNTS_2: [u8; 23] = *b"CLA\x02\0\x02\x02\x05\0\0\0\x04\0\0\0\x03\0\0\0\x06\0\0\0";
 
 // of one lot and up to 32 calls: the lot's amount, call 30 wants 2, and the others nothing; it ends after the call amounts
 pub fn wide_amounts(calls: u8, lot: u8) -> [u8; 139] {

@@ -1,5 +1,5 @@
-// Document 01's known examples, F1 to F14, run through the entry points, a few more inputs to a run that tempt to another answer, and runs
-// with an idle call (document 02, request 2).
+// Document 01's known examples, F1 to F14, run through the entry points, a few more inputs to a run that tempt to another answer, runs with
+// an idle call (document 02, request 2), and books with rebates (request 4).
 mod given;
 mod show;
 
@@ -203,6 +203,47 @@ fn many_calls() {
     );
 }
 
+// A least cost may be below zero. With an idle call, whose cost is 0, the lot with the rebate is placed and the dear one stays.
+fn rebates() {
+    place(b"Rebates", &given::REBATES_BOOK, &given::F1_AMOUNTS);
+    place(b"Lowest cost", &given::LOWEST_BOOK, &given::F12_AMOUNTS);
+    find_and_run(
+        b"One rebate",
+        &given::ONE_REBATE_BOOK,
+        &given::ONE_REBATE_AMOUNTS,
+    );
+    find_and_run_idle(
+        b"One rebate",
+        &given::ONE_REBATE_BOOK,
+        &given::ONE_REBATE_AMOUNTS,
+    );
+}
+
+// A book has version 1 or 2; an order and amounts have version 1, with a book of version 2 too.
+fn versions() {
+    show::counts(
+        b"Version 3 of a book",
+        b"read_book",
+        book::read_book(&given::BOOK_3),
+    );
+    check(
+        b"Version 2 of an order",
+        &given::REBATES_BOOK,
+        &given::ORDER_2,
+    );
+    run(
+        b"Version 2 of an order",
+        &given::REBATES_BOOK,
+        &given::ORDER_2,
+        &given::F1_AMOUNTS,
+    );
+    find_and_run(
+        b"Version 2 of amounts",
+        &given::REBATES_BOOK,
+        &given::AMOUNTS_2,
+    );
+}
+
 fn main() {
     f1();
     f2_to_f4();
@@ -219,4 +260,6 @@ fn main() {
     lots_that_stay();
     idle_refused();
     many_calls();
+    rebates();
+    versions();
 }

@@ -260,6 +260,24 @@ fn show_gaps() {
     show_pairs(b"gaps, (0, 0) not eligible", &book, b"11 01 10 13 03");
 }
 
+// Version 2 of a book: sums are compared with their signs (request 4). Rows -9 - 3 and 2 9 8, - not eligible; and the lowest and highest
+// costs.
+fn show_rebates() {
+    let gap =
+        b"CLB\x02\x00\x02\x03\x05\x00\x00\x00\xf7\xff\xff\xff\x03\x00\x00\x00\x07\x00\x00\x00\x02\x00\x00\x00\x09\x00\x00\x00\x08\x00\x00\x00";
+    show_pairs(b"rebate, -9 + 8 and 3 + 2", gap, b"00 02 10 12 11");
+    show_pairs(b"rebate, 3 + 2 and -9 + 8", gap, b"02 00 10 12 11");
+    let widest =
+        b"CLB\x02\x00\x02\x02\x03\x00\x00\x00\xc0\xbd\xf0\xff\x40\x42\x0f\x00\x03\x00\x00\x00\x40\x42\x0f\x00\xc0\xbd\xf0\xff";
+    show_pairs(b"lowest sum first", widest, b"00 11 01 10");
+    show_pairs(b"highest sum first", widest, b"01 10 00 11");
+    let alike =
+        b"CLB\x02\x00\x02\x02\x03\x00\x00\x00\x40\x42\x0f\x00\xc0\xbd\xf0\xff\x03\x00\x00\x00\x40\x42\x0f\x00\xc0\xbd\xf0\xff";
+    show_pairs(b"highest first in each lot", alike, b"00 01 10 11");
+    show_pairs(b"lowest first in each lot", alike, b"01 00 11 10");
+    show(b"version 2 of an order", widest, b"CLO\x02\x00\x00\x00");
+}
+
 // 22 lots and 7 calls, eligible (0, 0), (0, 3), (10, 0), (10, 3), (10, 6) and (21, 3): (10, 3) fails with (0, 6) and with (21, 0).
 fn show_far_failures() {
     let mut book = [0u8; 119];
@@ -284,5 +302,6 @@ fn main() {
     show_pairs_met();
     show_blocks();
     show_gaps();
+    show_rebates();
     show_far_failures();
 }

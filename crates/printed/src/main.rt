@@ -1,5 +1,5 @@
-// The text that is printed of several books and amounts: each refusal that can come, nothing placed, a few lines, and the most lines that
-// a text can have.
+// The text that is printed of several books and amounts: each refusal that can come, nothing placed, a few lines, costs below zero, and the
+// most lines that a text can have.
 
 // Prints a label, and then the text of two files.
 fn print(label: &[u8], book: &[u8], amounts: &[u8]) {
@@ -121,6 +121,25 @@ fn one_by_one() {
     );
 }
 
+// A cost below zero has a minus, and 0 has none: F1 with rebates, and 1 by 2, costs -1 1. Other versions and a lower cost are refused.
+fn rebates() {
+    print(
+        b"rebates",
+        b"CLB\x02\0\x02\x02\x03\0\0\0\x01\0\0\0\xfe\xff\xff\xff\x03\0\0\0\xfd\xff\xff\xff\x05\0\0\0",
+        b"CLA\x01\0\x02\x02\x05\0\0\0\x04\0\0\0\x03\0\0\0\x06\0\0\0",
+    );
+    print(
+        b"rebate as high as a cost",
+        b"CLB\x02\0\x01\x02\x03\0\0\0\xff\xff\xff\xff\x01\0\0\0",
+        b"CLA\x01\0\x01\x02\x02\0\0\0\x01\0\0\0\x01\0\0\0",
+    );
+    print_book(b"book of version 3", b"CLB\x03\0\x01\x01");
+    print_book(
+        b"book with a cost of -1,000,001",
+        b"CLB\x02\0\x01\x01\x01\0\0\0\xbf\xbd\xf0\xff",
+    );
+}
+
 // Puts the lowest byte of a number at an offset, if the file reaches so far.
 fn put(out: &mut [u8], at: usize, x: u32) {
     if at < out.len() {
@@ -150,27 +169,39 @@ fn fill(out: &mut [u8], count: u16, first: u32, others: u32) {
     }
 }
 
-// 32 by 32, all eligible at 1,000,000, at the front of a file; bytes 5 and 6 are 32 and 32.
-fn put_book(out: &mut [u8]) {
+// 32 by 32, all eligible at a cost, at the front of a file of a version; bytes 5 and 6 are 32 and 32.
+fn put_book(out: &mut [u8], version: u32, cost: u32) {
     files::write_opening(out, &files::BOOK_MARK, 32 + 256 * 32);
-    fill(out, 1056, 4294967295, 1000000);
+    put(out, 3, version);
+    fill(out, 1056, 4294967295, cost);
 }
 
-// All amounts are 1,000,000,000 but that of lot 0, which is half of it: each other lot goes half to one call and half to the next.
-fn most_lines() {
+// All amounts are 1,000,000,000 but the one at an offset, which is half of it: lots go half to one call and half to the next.
+fn print_63(label: &[u8], version: u32, cost: u32, half: u32) {
     let mut book = [0u8; 4231];
-    put_book(&mut book);
+    put_book(&mut book, version, cost);
     let mut amounts = [0u8; 263];
     files::write_opening(&mut amounts, &files::AMOUNTS_MARK, 32 + 256 * 32);
     fill(&mut amounts, 64, 1000000000, 1000000000);
-    put_u32(&mut amounts, 7, 500000000);
-    print(b"63 lines", &book, &amounts);
+    put_u32(&mut amounts, half, 500000000);
+    print(label, &book, &amounts);
+}
+
+// At 1,000,000, with lot 0 halved; and at -1,000,000, with call 0 halved, which makes the longest first line.
+fn most_lines() {
+    print_63(b"63 lines", 1, 1000000, 7);
+    print_63(
+        b"63 lines, and the longest first",
+        2,
+        4293967296,
+        7 + 4 * 32,
+    );
 }
 
 // A file that is longer than any book, and than what is read of it.
 fn too_long() {
     let mut book = [0u8; 5000];
-    put_book(&mut book);
+    put_book(&mut book, 1, 1000000);
     print_book(b"book of 5,000 bytes", &book);
 }
 
@@ -182,6 +213,7 @@ fn main() {
     no_order();
     two_by_two();
     one_by_one();
+    rebates();
     most_lines();
     too_long();
 }

@@ -166,6 +166,18 @@ const FREED: [u8; 43] =
 
 const NO_PAIRS: [u8; 15] = *b"CLB\x01\0\x02\x03\0\0\0\0\0\0\0\0";
 
+// in version 2, costs 1 -2 / -3 5
+const REBATES: [u8; 31] =
+    *b"CLB\x02\0\x02\x02\x03\0\0\0\x01\0\0\0\xfe\xff\xff\xff\x03\0\0\0\xfd\xff\xff\xff\x05\0\0\0";
+
+// in version 2, 3 - -9 / 8 9 2
+const REBATE_WITH_GAP: [u8; 35] =
+    *b"CLB\x02\0\x02\x03\x05\0\0\0\x03\0\0\0\xf7\xff\xff\xff\x07\0\0\0\x08\0\0\0\x09\0\0\0\x02\0\0\0";
+
+// in version 2, the lowest costs beside the highest
+const WIDEST: [u8; 31] =
+    *b"CLB\x02\0\x02\x02\x03\0\0\0\x40\x42\x0f\0\xc0\xbd\xf0\xff\x03\0\0\0\xc0\xbd\xf0\xff\x40\x42\x0f\0";
+
 fn show_examples() {
     show_in(b"F1", &F1, 40);
     show_in(b"F7", &F7, 40);
@@ -200,6 +212,13 @@ fn show_anew() {
     show_in(b"P56", &F7, 40);
 }
 
+// Sums with their signs: with all pairs eligible, with a gap, and the widest apart.
+fn show_signed() {
+    show_in(b"P141", &REBATES, 40);
+    show_in(b"P141", &REBATE_WITH_GAP, 40);
+    show_in(b"P141", &WIDEST, 40);
+}
+
 // A search that is long for a plain scan, by corners.
 fn show_long() {
     let mut order = [170u8; 2060];
@@ -219,6 +238,7 @@ fn main() {
     show_free_pairs();
     show_lengths();
     show_anew();
+    show_signed();
     show_long();
     show_long_with_gap();
 }
