@@ -5,7 +5,7 @@ use specification::Call;
 use specification::Lot;
 ghost use mathlib.Core.Path.{_≡_};
 ghost use mathlib.Core.Bool.{true};
-ghost use Prim.Native.Nat.{ℕ, _+_, _*_, _^_, _<_, _≤_};
+ghost use Prim.Native.Nat.{ℕ, _+_, _*_, _-_, _^_, _<_, _≤_};
 ghost use lib.Count.{ones};
 ghost use lib.Dec.{leb};
 ghost use lib.ListN.{length, drop, getD};
@@ -54,6 +54,14 @@ pub fn cost_from(book: &[u8], start: usize, call: Call, base: u32) -> u32
     ensures { λ r. ⌜ r ≡ liftedCost base (rowCost (drop start (now (book .entry))) (call .0)) ⌝ }
 {
     super::signed::lifted(super::row::cost_in(&book[start..], call), base)
+}
+
+// The word of a lot that has all m calls.
+pub fn all_calls(m: usize) -> u32
+    requires { ⌜ m ≤ 32 ⌝ }
+    ensures { λ r. ⌜ r ≡ 2 ^ m - 1 ⌝ }
+{
+    ((1u64 << m) - 1) as u32
 }
 
 // The lowest set bit of a word from bit j on, or 32.

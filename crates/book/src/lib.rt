@@ -10,6 +10,7 @@ use specification::Counts;
 use specification::Lot;
 use specification::Refusal;
 ghost use mathlib.Core.Path.{_≡_};
+ghost use Prim.Native.Nat.{_≤_};
 ghost use Rattle.specification.specs.Reply.{statedCounts};
 ghost use Rattle.specification.specs.Book.{readRows, countOutside, readBook, lotCosts, pairCost};
 ghost use Rattle.files.specs.Files.{statedStep};
@@ -25,12 +26,14 @@ pub enum Cost {
 
 // The rows of lots 0 to `lots` - 1, in the part of the book that starts at the first one's word; no byte may follow them.
 fn read_rows(rows: &[u8], version: u16, lots: usize, calls: usize) -> Step
+    requires { ⌜ calls ≤ 32 ⌝ }
     ensures { λ r. ⌜ statedStep r ≡ readRows (now (rows .entry)) version 0 lots calls ⌝ }
 {
+    let all = inner::all_calls(calls);
     let mut at = 0;
     for lot in 0..lots {
         let row = &rows[at..];
-        let step = row::read_row(row, version, Lot(lot), calls);
+        let step = row::read_row(row, version, Lot(lot), calls, all);
         if let Step::Refused(r) = step {
             return Step::Refused(r);
         }

@@ -5,8 +5,12 @@ use specification::Call;
 use specification::Lot;
 use specification::Refusal;
 ghost use mathlib.Core.Path.{_≡_};
-ghost use Prim.Native.Nat.{_≤_};
+ghost use Prim.Native.Nat.{_+_, _*_, _-_, _^_, _≤_};
+ghost use lib.Dec.{leb};
 ghost use lib.ListN.{length};
+ghost use Rattle.transport.specs.Finder.{every};
+ghost use Rattle.specification.specs.Bytes.{u32At};
+ghost use Rattle.specification.specs.Costs.{costLimit, costBase, liftedCost};
 ghost use Rattle.specification.specs.Book.{rowSize, rowCost, readCosts, readRow};
 ghost use Rattle.files.specs.Files.{statedStep};
 
@@ -45,27 +49,39 @@ fn first_outside(row: &[u8], version: u16, lot: Lot, calls: usize) -> Step
     Step::Passes
 }
 
+// Whether the first `count` costs of a row are within the range of a version. The base is a constant in each call, so that the compiler has
+// a loop for each.
+fn within(row: &[u8], version: u16, count: usize) -> bool
+    requires { ⌜ 4 + 4 * count ≤ length (now row) ⌝ }
+    ensures { λ r.
+        ⌜ r ≡ every count (λ k. leb (liftedCost (costBase version) (u32At (now (row .entry)) (4 + 4 * k))) (costLimit + costBase version)) ⌝ }
+{
+    if version == 2 {
+        return super::inner::all_within(row, 4, count, COST_LIMIT, COST_LIMIT + COST_LIMIT);
+    }
+    super::inner::all_within(row, 4, count, 0, COST_LIMIT)
+}
+
 // The costs of a row that stands whole in the book: none may be outside the range. Only where one is, they are gone through by call.
 fn read_costs(row: &[u8], version: u16, lot: Lot, calls: usize) -> Step
     requires { ⌜ rowSize (now row) ≤ length (now row) ⌝ }
     ensures { λ r. ⌜ statedStep r ≡ readCosts (now (row .entry)) version (lot .0) calls 0 ⌝ }
 {
-    let base = super::signed::cost_base(version);
-    let costs = super::word::count(files::u32_at(row, 0));
-    if super::inner::all_within(row, 4, costs, base, COST_LIMIT + base) {
+    if within(row, version, super::word::count(files::u32_at(row, 0))) {
         return Step::Passes;
     }
     first_outside(row, version, lot, calls)
 }
 
-// The row of a lot: its word, and then its costs.
-pub fn read_row(row: &[u8], version: u16, lot: Lot, calls: usize) -> Step
+// The row of a lot: its word, which is at most the word of all calls, and then its costs.
+pub fn read_row(row: &[u8], version: u16, lot: Lot, calls: usize, all: u32) -> Step
+    requires { ⌜ all ≡ 2 ^ calls - 1 ⌝ }
     ensures { λ r. ⌜ statedStep r ≡ readRow (now (row .entry)) version (lot .0) calls ⌝ }
 {
     if row.len() < 4 {
         return Step::Refused(Refusal::EndsEarly);
     }
-    if super::word::reaches(files::u32_at(row, 0), calls) {
+    if all < files::u32_at(row, 0) {
         return Step::Refused(Refusal::BitOutside(lot));
     }
     if row.len() < size(row) {

@@ -45,7 +45,7 @@ abbrev RowsRead : List ℕ → ℕ → Type 0
 RowsRead book i = (g : ℕ) → g < i → RowRead (rowAt book g) (bookVersion book) (bookCalls book)
 
 -- a count of lots or calls, and one that is 0 or above 32
-abbrev Within32 : ℕ → Type 0
+abbrev pub Within32 : ℕ → Type 0
 Within32 n = (1 ≤ n) × (n ≤ 32)
 
 abbrev Outside : ℕ → Type 0
@@ -90,7 +90,7 @@ module _ (book : List ℕ) (headed : Headed book) where
       rows-say left (suc lot) (omega arith)
       (λ g h. ⊎-elim (λ (same : g ≡ lot). rw same row) (before g) (below-suc h)))
 
-count-within : (n : ℕ) → T (not (countOutside n)) → Within32 n
+pub count-within : (n : ℕ) → T (not (countOutside n)) → Within32 n
 count-within n t =
     let (some, within) = neither-of-or (eqb n 0) (ltb 32 n) t in
     let positive : (n ≡ 0 → ⊥) = λ e. T-not (eqb n 0) some (rw e tt) in

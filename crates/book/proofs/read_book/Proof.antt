@@ -4,12 +4,14 @@ use mathlib.Core.Path.{_≡_, sym, ap, _∙_}
 use mathlib.Core.Bool.{Bool}
 use mathlib.Core.List.{List}
 use Prim.Native.Nat.{ℕ, _≤_}
+use native.Mathlib.Omega.{arith}
 use lib.ListN.{length, drop}
 use Rattle.specification.specs.Reply.{gives, _>>=_}
 use Rattle.specification.specs.Bytes.{bookMark, readOpening}
 use Rattle.specification.specs.Book.{readRows, bookVersion, bookLots, bookCalls, countOutside, readBook}
 use Rattle.specification.proofs.Replies.{said-of-given}
 use Rattle.specification.proofs.Rows.{opening-says}
+use Rattle.specification.proofs.Books.{count-within}
 use Rattle.files.specs.Files.{statedStep}
 use Rattle.files.proofs.Parts.{rest-is}
 use Rattle.book.proofs.read_book.Statement.{statement}
@@ -38,6 +40,10 @@ module _ (c : tie.After-is-outside2) where
 
 long : (c : tie.Else2) → 7 ≤ length (book (opened (lots-read (c .before))))
 long c = said-of-given (opening-says bookMark 2 _) tt (opens (opened (lots-read (c .before)))) .seven
+
+-- and there are at most 32 calls
+few : (c : tie.Else2) → bookCalls (book (opened (lots-read (c .before)))) ≤ 32
+few c = count-within (bookCalls (book (opened (lots-read (c .before))))) (rw (calls-outside (c .before) (c .if2 .left)) tt) .1
 
 returns : tie.Need-returns
 unfolding readBook
@@ -95,7 +101,7 @@ read-book-spec =
     (λ c. long c)
     (λ c. search needs)
     (λ c κs. search needs)
-    (λ c κs. search needs)
+    (λ c κs. let e = c .before .before in omega (arith, few e, lots-read (e .before) .before .u8-at2 .ensures))
     (λ c. search needs)
     (λ c. search needs)
     returns-4

@@ -20,15 +20,15 @@ use Rattle.book.proofs.read_rows.Statement.{statement}
 use Rattle.book.proofs.read_rows.Tie as tie
 
 abbrev Inv-loop : tie.InvT-loop
-Inv-loop rows version lots calls at₀ lot₀ at lot =
+Inv-loop rows version lots calls all at₀ lot₀ at lot =
     (lot ≤ lots) × (at ≤ length rows) × (readRows rows version 0 lots calls ≡ readRows (drop at rows) version lot (lots - lot) calls)
 
 abbrev μ-loop : tie.MeasureT-loop
-μ-loop rows version lots calls at₀ lot₀ at lot = lots - lot
+μ-loop rows version lots calls all at₀ lot₀ at lot = lots - lot
 
 loop-holds : tie.Need-loop-holds Inv-loop μ-loop
 loop-holds c =
-    let a = c .before .args in
+    let a = c .before .before .args in
     (omega arith, omega arith, ap (λ (n : ℕ). readRows (a .rows .now) (a .version) 0 n (a .calls)) (omega arith))
 
 -- the reply of the row that the loop is at, and what is left after it
@@ -37,13 +37,13 @@ module _ (c : tie.After-read-row Inv-loop μ-loop) where
   loop = c .before .before .before
 
   abbrev rows : List ℕ
-  rows = loop .before .before .args .rows .now
+  rows = loop .before .before .before .args .rows .now
 
   abbrev version : ℕ
-  version = loop .before .before .args .version
+  version = loop .before .before .before .args .version
 
   abbrev calls : ℕ
-  calls = loop .before .before .args .calls
+  calls = loop .before .before .before .args .calls
 
   abbrev row : List ℕ
   row = drop (loop .loop .at) rows
@@ -51,7 +51,7 @@ module _ (c : tie.After-read-row Inv-loop μ-loop) where
   row-is : readRow row version (loop .loop .lot) calls ≡ statedStep (c .read-row .result)
   row-is = sym (rw rest-is at (c .read-row .ensures))
 
-  step-is : {r : Reply (Unit {0})} → statedStep (c .read-row .result) ≡ r → (let lots = loop .before .before .args .lots in
+  step-is : {r : Reply (Unit {0})} → statedStep (c .read-row .result) ≡ r → (let lots = loop .before .before .before .args .lots in
       readRows rows version 0 lots calls
       ≡ (r >>= λ _. readRows (drop (rowSize row) row) version (loop .loop .lot + 1) (lots - (loop .loop .lot + 1)) calls))
   step-is e = loop .loop .inv .2 ∙ rows-step _ _ _ _ _ (c .before .before .loop-test .taken) (row-is ∙ e)
@@ -84,11 +84,11 @@ loop-again c = (
   step-is (read c) (ap statedStep (c .before .enum-told .given .1)) ∙ rw (next-part c),
 )
 
-end-is : (c : tie.After-loop Inv-loop μ-loop) {b : Bool} → (let l = c .before in let a = l .before .before .args in
+end-is : (c : tie.After-loop Inv-loop μ-loop) {b : Bool} → (let l = c .before in let a = l .before .before .before .args in
     ltb (l .loop .at) (length (a .rows .now)) ≡ b → readRows (a .rows .now) (a .version) 0 (a .lots) (a .calls) ≡ refuseIf b 8 [])
 end-is c e =
     let l = c .before in
-    let a = l .before .before .args in
+    let a = l .before .before .before .args in
     rw (← e) (l .loop .inv .2 ∙ rows-end (a .version) (a .lots) (l .loop .lot) (a .calls) (l .loop .at) (a .rows .now) (c .loop-test .left))
 
 returns-2 : tie.Need-returns-2 Inv-loop μ-loop
@@ -103,11 +103,12 @@ read-rows-spec =
     (tie.spec
     Inv-loop
     μ-loop
+    (λ c κs. search needs)
     loop-holds
     (λ c. search needs)
     (λ c. search needs)
     (λ c. search needs)
-    (λ c κs. tt)
+    (λ c κs. c .before .before .before .all-calls .ensures)
     (λ c. search needs)
     returns
     (λ c. search needs)

@@ -6,22 +6,21 @@ use Prim.Native.Nat.{ℕ}
 use native.Mathlib.Omega.{arith}
 use lib.Count.{ones}
 use Rattle.specification.specs.Book.{rowWord}
-use Rattle.specification.proofs.Costs.{base-within}
 use Rattle.specification.proofs.Numbers.{u32-below}
 use Rattle.book.proofs.Rows.{costs-low}
 use Rattle.book.proofs.row.read_costs.Statement.{statement}
 use Rattle.book.proofs.row.read_costs.Tie as tie
 
-costs-are : (c : tie.After-count) → c .count .result ≡ ones (rowWord (c .before .before .before .before .args .row .now))
+costs-are : (c : tie.After-count) → c .count .result ≡ ones (rowWord (c .before .before .before .args .row .now))
 costs-are c = rw (c .before .u32-at .ensures) at (c .count .ensures)
 
 returns : tie.Need-returns
 returns c =
     let n = c .before .before in
-    let b = n .before .before in
-    let row : List ℕ = b .before .before .args .row .now in
-    let fits = u32-below row (λ i. omega (arith, b .before .shared-slice-known .given i)) in
-    sym (costs-low _ _ _ fits (rw (costs-are n, b .cost-base .ensures) at (sym (c .before .all-within .ensures) ∙ c .if1 .taken)) _ _)
+    let known = n .before .before in
+    let row : List ℕ = known .before .args .row .now in
+    let fits = u32-below row (λ i. omega (arith, known .shared-slice-known .given i)) in
+    sym (costs-low _ _ _ fits (rw (costs-are n) at (sym (c .before .within .ensures) ∙ c .if1 .taken)) _ _)
 
 pub read-costs-spec : {M : Type 1} → statement M
 read-costs-spec =
@@ -29,8 +28,6 @@ read-costs-spec =
     (tie.spec
     (λ c κs. search needs)
     (λ c κs. search needs)
-    (λ c κs. search needs)
-    (λ c. omega (arith, c .before .before .cost-base .ensures, base-within (c .before .before .before .before .args .version)))
     (λ c κs. omega (arith, costs-are c))
     returns
     (λ c κs. search needs)
