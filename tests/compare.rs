@@ -156,6 +156,8 @@ fn parts_of_version_2<'a>() -> Vec<(&'a str, Work<'a>)> {
         ("costs about the limits of either version", Box::new(versions::cost_limits)),
         ("versions of each file", Box::new(versions::versions)),
         ("version 2, known runs", Box::new(known::rebates)),
+        ("version 2, demand 3 and verdicts by brute force", Box::new(demand3::rebates)),
+        ("version 2, request 2 by brute force", Box::new(request2::rebates)),
     ]
 }
 
