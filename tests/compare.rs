@@ -1,7 +1,7 @@
-//! Compares the C library with an independent reference, and tries demand 3, what the verdicts promise and request 2 by brute force. The
-//! seed is fixed, so every run is the same. Parts run at the same time in several threads, as the library allows. The last line is
-//! `tests: N cases, D differences`; the exit status is 0 only if D is 0, each number and each verdict came, and each wrong reference was
-//! noticed. A digest of replies and writes is another where a landing changes one of them.
+//! Compares the C library with an independent reference and books of version 2 with those of version 1, and tries demand 3, what the
+//! verdicts promise and request 2 by brute force. The seed is fixed, so every run is the same. Parts run at the same time in several
+//! threads, as the library allows. The last line is `tests: N cases, D differences`; the exit status is 0 only if D is 0, each number and
+//! each verdict came, and each wrong reference was noticed. A digest of replies and writes is another where a landing changes one of them.
 mod demand3;
 mod direct;
 mod families;
@@ -13,6 +13,7 @@ mod placing;
 mod program;
 mod rebates;
 mod reference;
+mod relabelled;
 mod request2;
 mod samples;
 mod sections;
@@ -156,6 +157,7 @@ fn parts_of_version_2<'a>() -> Vec<(&'a str, Work<'a>)> {
         ("costs about the limits of either version", Box::new(versions::cost_limits)),
         ("versions of each file", Box::new(versions::versions)),
         ("version 2, known runs", Box::new(known::rebates)),
+        ("version 1 relabelled as version 2", Box::new(relabelled::relabelled)),
         ("version 2, demand 3 and verdicts by brute force", Box::new(demand3::rebates)),
         ("version 2, request 2 by brute force", Box::new(request2::rebates)),
     ]

@@ -1,5 +1,24 @@
 //! The library's own answers, for the checks that compare them with something else than the reference.
-use crate::sys::{placer_check_order, placer_find_order, placer_run_order, Reply};
+use crate::sys::{
+    placer_check_order, placer_find_order, placer_lot_costs, placer_pair_cost, placer_read_amounts, placer_read_book, placer_run_order,
+    Reply,
+};
+
+/// The reply to a book, and to amounts with it.
+pub fn read(book: &[u8], amounts: &[u8]) -> (Reply, Reply) {
+    let (b, a) = (book.as_ptr(), amounts.as_ptr());
+    unsafe { (placer_read_book(b, book.len()), placer_read_amounts(b, book.len(), a, amounts.len())) }
+}
+
+/// Start and length of the stretch with a lot's costs.
+pub fn lot_costs(book: &[u8], lot: usize) -> (usize, usize) {
+    let stretch = unsafe { placer_lot_costs(book.as_ptr(), book.len(), lot) };
+    (stretch.start, stretch.len)
+}
+
+pub fn pair_cost(book: &[u8], lot: usize, call: usize) -> Reply {
+    unsafe { placer_pair_cost(book.as_ptr(), book.len(), lot, call) }
+}
 
 /// The file of the order found.
 pub fn found(book: &[u8]) -> Option<Vec<u8>> {
