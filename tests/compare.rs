@@ -1,8 +1,9 @@
-//! Compares the C library with an independent reference, and tries demand 3, what the verdicts promise and request 2 by brute force. The
-//! seed is fixed, so every run is the same. Parts run at the same time in several threads, as the library allows. The last line is
-//! `tests: N cases, D differences`; the exit status is 0 only if D is 0, each number and each verdict came, and each wrong reference was
-//! noticed. The digest of replies and writes is another where a landing changes one of them.
+//! Compares the C library with an independent reference and books of version 2 with those of version 1, and tries demand 3, what the
+//! verdicts promise and request 2 by brute force. The seed is fixed, so every run is the same. Parts run at the same time in several
+//! threads, as the library allows. The last line is `tests: N cases, D differences`; the exit status is 0 only if D is 0, each number and
+//! each verdict came, and each wrong reference was noticed. A digest of replies and writes is another where a landing changes one of them.
 mod demand3;
+mod direct;
 mod families;
 mod files;
 mod idle;
@@ -10,15 +11,18 @@ mod known;
 mod library;
 mod placing;
 mod program;
+mod rebates;
 mod reference;
+mod relabelled;
 mod request2;
 mod samples;
 mod sections;
 #[path = "../bindings/rust/src/sys.rs"]
 mod sys;
+mod versions;
 mod wrong;
 
-use library::{Comparison, Tallies, Tally, IDLE};
+use library::{Comparison, Tallies, Tally, IDLE, PLACE};
 use std::collections::hash_map::DefaultHasher;
 use std::hash::Hasher;
 use std::path::Path;
@@ -27,19 +31,22 @@ use std::sync::Mutex;
 use std::time::Instant;
 use wrong::{Wrong, WRONG};
 
+/// The cells of the small books of version 1.
+const SMALL: [Option<i64>; 4] = [None, Some(0), Some(1), Some(2)];
+
 type Work<'a> = Box<dyn Fn(&mut Comparison) + Sync + 'a>;
 
 /// What a part came to.
 struct Outcome {
     tallies: Tallies,
-    digest: u64,
+    digests: [u64; 2],
     seconds: f64,
 }
 
 fn outcome(wrong: Wrong, work: &Work) -> Outcome {
     let (start, mut c) = (Instant::now(), Comparison::new(wrong));
     work(&mut c);
-    Outcome { digest: c.digest(), tallies: c.tallies, seconds: start.elapsed().as_secs_f64() }
+    Outcome { digests: c.digests(), tallies: c.tallies, seconds: start.elapsed().as_secs_f64() }
 }
 
 fn sum<'a>(tallies: impl Iterator<Item = &'a Tally>) -> Tally {
@@ -48,6 +55,7 @@ fn sum<'a>(tallies: impl Iterator<Item = &'a Tally>) -> Tally {
         sum.differences += tally.differences;
         sum.numbers.iter_mut().zip(tally.numbers).for_each(|(sum, times)| *sum += times);
         sum.verdicts.iter_mut().zip(tally.verdicts).for_each(|(sum, times)| *sum += times);
+        sum.below_zero += tally.below_zero;
         sum
     })
 }
@@ -75,27 +83,35 @@ fn run_all(parts: &[(Wrong, Work)]) -> Vec<Outcome> {
     outcomes.into_iter().map(|(_, done)| done).collect()
 }
 
-/// One digest of what the library replied and wrote in all parts.
-fn digest(outcomes: &[Outcome]) -> u64 {
+/// One digest of what the library replied and wrote in all parts, with books of version 2 or with others.
+fn digest(outcomes: &[Outcome], books: usize) -> u64 {
     let mut all = DefaultHasher::new();
-    outcomes.iter().for_each(|done| all.write_u64(done.digest));
+    outcomes.iter().for_each(|done| all.write_u64(done.digests[books]));
     all.finish()
 }
 
 /// Whether a wrong reference was noticed: by each of these entry points, or by any where none is named.
 fn noticed(tallies: &Tallies, names: &[&str]) -> bool {
-    let differs = |tally: &Tally| tally.differences > 0;
-    tallies.values().any(differs) && names.iter().all(|name| tallies.get(name).map_or(false, differs))
+    let differing = || tallies.iter().filter(|(_, tally)| tally.differences > 0);
+    differing().next().is_some() && names.iter().all(|name| differing().any(|(key, _)| key.0 == *name))
 }
 
 /// The cases in which a wrong reference is to be noticed: it stops once it is.
-fn notice(c: &mut Comparison, names: &[&str]) {
-    let parts: [fn(&mut Comparison); 5] = [
-        |c| sections::random_books(c, 200, 6, 2),
-        |c| sections::damage(c, &samples::stored_books()[..4]),
-        sections::limits,
-        sections::small_books,
-        known::known_idle,
+fn notice(c: &mut Comparison, names: &[&str], path: &Path) {
+    let parts: [&dyn Fn(&mut Comparison); 9] = [
+        &|c| sections::random_books(c, 1, 200, 6, 2),
+        &|c| sections::random_books(c, 2, 200, 6, 2),
+        &|c| sections::damage(c, &samples::stored_books()[..4]),
+        &sections::limits,
+        &|c| sections::small_books(c, 1, &SMALL),
+        &known::known_idle,
+        &versions::cost_limits,
+        &versions::versions,
+        &|c| {
+            if names.contains(&PLACE) {
+                program::rebates(c, path)
+            }
+        },
     ];
     let _ = parts.iter().any(|part| {
         part(c);
@@ -103,46 +119,90 @@ fn notice(c: &mut Comparison, names: &[&str]) {
     });
 }
 
-/// The parts and their names, the two longest first. The printing program is the last one, where it is built.
-fn all_parts(path: &Path) -> Vec<(&str, Work<'_>)> {
-    let mut parts: Vec<(&str, Work)> = vec![
-        ("families to 31 by 31", Box::new(|c| families::families(c, 2, &[14, 24, 31]))),
-        ("families to 32 by 32", Box::new(|c| families::families(c, 2, &[1, 2, 17, 32]))),
+/// The parts with books of version 1, the two longest first.
+fn parts_of_version_1<'a>() -> Vec<(&'a str, Work<'a>)> {
+    vec![
+        ("families to 31 by 31", Box::new(|c| families::families(c, 1, 2, &[14, 24, 31]))),
+        ("families to 32 by 32", Box::new(|c| families::families(c, 1, 2, &[1, 2, 17, 32]))),
         ("damaged files", Box::new(|c| sections::damage(c, &samples::stored_books()))),
-        ("books up to 2 by 2", Box::new(sections::small_books)),
-        ("books of 3 by 3", Box::new(sections::three_by_three)),
-        ("random books to 8 by 8", Box::new(|c| sections::random_books(c, 4_000, 8, 6))),
-        ("random books to 16 by 16", Box::new(|c| sections::random_books(c, 2_000, 16, 6))),
-        ("random books to 32 by 32", Box::new(|c| sections::random_books(c, 600, 32, 6))),
-        ("largest books", Box::new(sections::largest_books)),
-        ("families to 12 by 12", Box::new(|c| families::families(c, 6, &[1, 2, 3, 4, 5, 6, 7, 8, 9, 10, 11, 12]))),
+        ("books up to 2 by 2", Box::new(|c| sections::small_books(c, 1, &SMALL))),
+        ("books of 3 by 3", Box::new(|c| sections::three_by_three(c, 1, &SMALL[..3]))),
+        ("random books to 8 by 8", Box::new(|c| sections::random_books(c, 1, 4_000, 8, 6))),
+        ("random books to 16 by 16", Box::new(|c| sections::random_books(c, 1, 2_000, 16, 6))),
+        ("random books to 32 by 32", Box::new(|c| sections::random_books(c, 1, 600, 32, 6))),
+        ("largest books", Box::new(|c| sections::largest_books(c, 1))),
+        ("families to 12 by 12", Box::new(|c| families::families(c, 1, 6, &[1, 2, 3, 4, 5, 6, 7, 8, 9, 10, 11, 12]))),
         ("limits", Box::new(sections::limits)),
         ("known runs", Box::new(known::known)),
         ("known runs with an idle call", Box::new(known::known_idle)),
         ("long orders", Box::new(sections::long_orders)),
         ("demand 3 and verdicts by brute force", Box::new(demand3::demand3)),
         ("request 2 by brute force", Box::new(request2::request2)),
-    ];
-    match path.is_file() {
-        true => parts.push(("printing program", Box::new(move |c| program::program(c, path)))),
-        false => println!("printing program: SKIPPED, it is not built"),
+    ]
+}
+
+/// The parts of request 4.
+fn parts_of_version_2<'a>() -> Vec<(&'a str, Work<'a>)> {
+    vec![
+        ("version 2, families to 31 by 31", Box::new(|c| families::families(c, 2, 1, &[13, 31]))),
+        ("version 2, families to 12 by 12", Box::new(|c| families::families(c, 2, 3, &[1, 2, 3, 4, 6, 8, 12]))),
+        ("version 2, damaged files", Box::new(|c| sections::damage(c, &rebates::stored_rebates()))),
+        ("version 2, books up to 2 by 2", Box::new(|c| sections::small_books(c, 2, &[None, Some(-1), Some(0), Some(1)]))),
+        ("version 2, books of 3 by 3", Box::new(|c| sections::three_by_three(c, 2, &[None, Some(-1), Some(0)]))),
+        ("version 2, random books to 8 by 8", Box::new(|c| sections::random_books(c, 2, 4_000, 8, 6))),
+        ("version 2, random books to 16 by 16", Box::new(|c| sections::random_books(c, 2, 1_000, 16, 6))),
+        ("version 2, random books to 32 by 32", Box::new(|c| sections::random_books(c, 2, 400, 32, 6))),
+        ("version 2, largest books", Box::new(|c| sections::largest_books(c, 2))),
+        ("version 2, largest costs", Box::new(versions::largest_costs)),
+        ("costs about the limits of either version", Box::new(versions::cost_limits)),
+        ("versions of each file", Box::new(versions::versions)),
+        ("version 2, known runs", Box::new(known::rebates)),
+        ("version 1 relabelled as version 2", Box::new(relabelled::relabelled)),
+        ("version 2, demand 3 and verdicts by brute force", Box::new(demand3::rebates)),
+        ("version 2, request 2 by brute force", Box::new(request2::rebates)),
+    ]
+}
+
+/// All parts. Those of the printing program are the last ones, where it is built.
+fn all_parts(path: &Path) -> Vec<(&str, Work<'_>)> {
+    let mut parts = parts_of_version_1();
+    parts.extend(parts_of_version_2());
+    if path.is_file() {
+        parts.push(("printing program", Box::new(move |c| program::program(c, path))));
+        parts.push(("version 2, printing program", Box::new(move |c| program::rebates(c, path))));
+    } else {
+        println!("printing program: SKIPPED, it is not built");
     }
     parts
 }
 
-/// Prints how often each number and each verdict came, in all and in the run with an idle call, which meets no order's numbers; the count
-/// of those that never did.
+/// Prints how often each number and each verdict came, in all, with books of version 2, and in the run with an idle call, which meets no
+/// order's numbers; the count of those that never did.
 fn unseen(outcomes: &[Outcome]) -> u64 {
-    let all = sum(outcomes.iter().flat_map(|done| done.tallies.values()));
-    let idle = sum(outcomes.iter().filter_map(|done| done.tallies.get(IDLE.name)));
+    let each = || outcomes.iter().flat_map(|done| &done.tallies);
+    let tallies: [(&str, Tally, &[usize]); 3] = [
+        ("all", sum(each().map(|(_, tally)| tally)), &[]),
+        ("books of version 2", sum(each().filter(|(key, _)| key.1).map(|(_, tally)| tally)), &[]),
+        (IDLE.name, sum(each().filter(|(key, _)| key.0 == IDLE.name).map(|(_, tally)| tally)), &[9, 10, 11, 12, 14]),
+    ];
     let print = |(name, tally, never): (&str, Tally, &[usize])| {
         let ([_, full, short, covered], numbers) = (tally.verdicts, tally.numbers);
         print!("{name}: {} cases, accepted {}; refused by 1 to 19: {:?}; ", tally.cases, numbers[0], &numbers[1..]);
-        println!("runs full {full}, short {short}, covered {covered}");
+        println!("runs full {full}, short {short}, covered {covered}, costs below zero {}", tally.below_zero);
         let expected = (0..numbers.len()).filter(|number| !never.contains(number)).map(|number| numbers[number]);
-        expected.chain(tally.verdicts).filter(|&times| times == 0).count() as u64
+        expected.chain(tally.verdicts).chain([tally.below_zero]).filter(|&times| times == 0).count() as u64
     };
-    [("all", all, &[][..]), (IDLE.name, idle, &[9, 10, 11, 12, 14])].into_iter().map(print).sum()
+    tallies.into_iter().map(print).sum()
+}
+
+/// The wrong references that were not noticed, and how many there are; those of the printing program are left out where it is not built.
+fn missed(path: &Path) -> (Vec<Wrong>, usize) {
+    let all: Vec<_> = WRONG.iter().filter(|(_, names)| path.is_file() || !names.contains(&PLACE)).collect();
+    let parts: Vec<(Wrong, Work)> =
+        all.iter().map(|&&(wrong, names)| (wrong, Box::new(move |c: &mut _| notice(c, names, path)) as Work)).collect();
+    let outcomes = run_all(&parts);
+    let missed = all.iter().zip(&outcomes).filter(|((_, names), done)| !noticed(&done.tallies, names));
+    (missed.map(|(&&(wrong, _), _)| wrong).collect(), all.len())
 }
 
 fn main() {
@@ -157,14 +217,11 @@ fn main() {
         differences += tally.differences;
     }
     differences += unseen(&outcomes);
-    println!("replies and writes that were compared: {:016x}", digest(&outcomes));
+    println!("replies and writes with books of version 2: {:016x}", digest(&outcomes, 0));
+    println!("replies and writes with all other books: {:016x}", digest(&outcomes, 1));
 
-    let parts: Vec<(Wrong, Work)> =
-        WRONG.iter().map(|&(wrong, names)| (wrong, Box::new(move |c: &mut _| notice(c, names)) as Work)).collect();
-    let outcomes = run_all(&parts);
-    let missed = WRONG.iter().zip(&outcomes).filter(|((_, names), done)| !noticed(&done.tallies, names));
-    let missed: Vec<Wrong> = missed.map(|(&(wrong, _), _)| wrong).collect();
-    println!("wrong references: {} of {} noticed", WRONG.len() - missed.len(), WRONG.len());
+    let (missed, wrong) = missed(Path::new(&path));
+    println!("wrong references: {} of {wrong} noticed", wrong - missed.len());
     missed.iter().for_each(|wrong| println!("NOT NOTICED: {wrong:?}"));
 
     differences += missed.len() as u64;

@@ -2,9 +2,10 @@
 //! with a call that costs all lots the same, and spoilt by one cost or by pairs that are missing. Lots and calls differ in number.
 use crate::files::{amounts_file, book_file};
 use crate::library::Comparison;
+use crate::rebates::in_version;
 use crate::samples::{amounts, even, pairs, permuted, Costs, Random};
 
-const COST_LIMIT: u64 = 1_000_000;
+const COST_LIMIT: i64 = 1_000_000;
 
 #[derive(Clone, Copy, PartialEq)]
 enum Family {
@@ -54,16 +55,16 @@ const CHANGES: [Change; 11] = [
 fn monge(random: &mut Random, lots: usize, calls: usize, cells: usize, density: u64, parts: u64) -> Costs {
     let mut weight = vec![vec![0; calls]; lots];
     for _ in 0..cells {
-        weight[random.below(lots as u64) as usize][random.below(calls as u64) as usize] += random.below(density + 1);
+        weight[random.below(lots as u64) as usize][random.below(calls as u64) as usize] += random.cost(density + 1);
     }
-    let (of_lot, of_call) = (random.numbers(lots, parts + 1), random.numbers(calls, parts + 1));
+    let (of_lot, of_call) = (random.costs(lots, parts + 1), random.costs(calls, parts + 1));
     let mut sums = vec![0; calls];
     let mut row = |i: usize| {
         let mut run = 0;
         let mut cost = |j: usize| {
             sums[j] += weight[i][j];
             run += sums[j];
-            Some(cells as u64 * density + of_lot[i] + of_call[j] - run)
+            Some(cells as i64 * density as i64 + of_lot[i] + of_call[j] - run)
         };
         (0..calls).map(&mut cost).collect()
     };
@@ -75,10 +76,10 @@ fn tree(random: &mut Random, lots: usize, calls: usize) -> Costs {
     let mut costs = vec![vec![None; calls]; lots];
     for v in 0..lots.max(calls) {
         if v < lots {
-            costs[v][random.below(v.clamp(1, calls) as u64) as usize] = Some(random.below(COST_LIMIT + 1));
+            costs[v][random.below(v.clamp(1, calls) as u64) as usize] = Some(random.cost(COST_LIMIT as u64 + 1));
         }
         if v < calls {
-            costs[random.below(lots.min(v + 1) as u64) as usize][v] = Some(random.below(COST_LIMIT + 1));
+            costs[random.below(lots.min(v + 1) as u64) as usize][v] = Some(random.cost(COST_LIMIT as u64 + 1));
         }
     }
     costs
@@ -127,7 +128,7 @@ fn raise(random: &mut Random, costs: &mut Costs) {
     let raised = |&(i, j): &(usize, usize)| {
         let (below, next) = (costs.get(i + 1)?, j + 1);
         let (right, under, across) = ((*costs[i].get(next)?)?, below[j]?, below[next]?);
-        let cost = (right + under + 1).checked_sub(across)?;
+        let cost = right + under + 1 - across;
         (cost > costs[i][j]? && cost <= COST_LIMIT).then_some((i, j, cost))
     };
     if let Some((i, j, cost)) = places.iter().find_map(raised) {
@@ -164,19 +165,8 @@ fn change(random: &mut Random, change: Change, costs: &mut Costs) {
     }
 }
 
-/// One book: finding, and finding and running with a flow buffer of just the length.
-fn find(c: &mut Comparison, random: &mut Random, costs: &Costs, and_run: bool) {
-    let (lots, calls) = (costs.len(), costs[0].len());
-    let book = book_file(costs);
-    c.find_order(&book, &random.bytes(7 + 2 * pairs(costs).len()));
-    if and_run {
-        c.find_and_run(&book, &amounts_file(lots, calls, &amounts(random, costs)), &random.entries(lots * calls));
-    }
-}
-
-/// Books of each family with each change, for each two of the sizes; every second one is also run.
-pub fn families(c: &mut Comparison, rounds: usize, sizes: &[usize]) {
-    let random = &mut Random(60 + sizes.len() as u64);
+/// Books of each family with each change, for each two of the sizes; each with its number.
+pub fn each_book(random: &mut Random, rounds: usize, sizes: &[usize], work: &mut dyn FnMut(&mut Random, usize, Costs)) {
     for round in 0..rounds {
         for (&lots, &calls) in sizes.iter().flat_map(|lots| sizes.iter().map(move |calls| (lots, calls))) {
             for family in FAMILIES {
@@ -186,9 +176,21 @@ pub fn families(c: &mut Comparison, rounds: usize, sizes: &[usize]) {
                     if !matches!(family, Family::Natural | Family::AllEqual | Family::Band) {
                         costs = permuted(random, costs);
                     }
-                    find(c, random, &costs, (round + lots + calls + number) % 2 == 0);
+                    work(random, round + lots + calls + number, costs);
                 }
             }
         }
     }
+}
+
+/// Finding, and for every second book finding and running with a flow buffer of just the length.
+pub fn families(c: &mut Comparison, version: u16, rounds: usize, sizes: &[usize]) {
+    each_book(&mut Random(60 + sizes.len() as u64), rounds, sizes, &mut |random, number, costs| {
+        let costs = in_version(random, version, costs);
+        let (lots, calls, book) = (costs.len(), costs[0].len(), book_file(version, &costs));
+        c.find_order(&book, &random.bytes(7 + 2 * pairs(&costs).len()));
+        if number % 2 == 0 {
+            c.find_and_run(&book, &amounts_file(lots, calls, &amounts(random, &costs)), &random.entries(lots * calls));
+        }
+    });
 }

@@ -1,5 +1,6 @@
 //! The three files, written as document 01 lays them out.
 use crate::reference::Pair;
+use crate::samples::Costs;
 
 pub fn order_file(pairs: &[Pair]) -> Vec<u8> {
     let mut file = b"CLO\x01\x00".to_vec();
@@ -8,8 +9,9 @@ pub fn order_file(pairs: &[Pair]) -> Vec<u8> {
     file
 }
 
-pub fn book_file(costs: &[Vec<Option<u64>>]) -> Vec<u8> {
-    let mut file = vec![b'C', b'L', b'B', 1, 0, costs.len() as u8, costs[0].len() as u8];
+/// A cost below zero is written as two's complement.
+pub fn book_file(version: u16, costs: &Costs) -> Vec<u8> {
+    let mut file = relabelled(&[b'C', b'L', b'B', 0, 0, costs.len() as u8, costs[0].len() as u8], version);
     for row in costs {
         let bits: u32 = (0..row.len()).filter(|&j| row[j].is_some()).map(|j| 1 << j).sum();
         file.extend_from_slice(&bits.to_le_bytes());
@@ -22,4 +24,9 @@ pub fn amounts_file(lots: usize, calls: usize, amounts: &[u64]) -> Vec<u8> {
     let mut file = vec![b'C', b'L', b'A', 1, 0, lots as u8, calls as u8];
     file.extend(amounts.iter().flat_map(|&a| (a as u32).to_le_bytes()));
     file
+}
+
+/// A file with another version.
+pub fn relabelled(file: &[u8], version: u16) -> Vec<u8> {
+    [&file[..3], &version.to_le_bytes(), &file[5..]].concat()
 }

@@ -24,7 +24,8 @@ impl Wrong {
         }
     }
 
-    /// The enlarged book: every lot is eligible for the idle call at cost 0.
+    /// The enlarged book: every lot is eligible for the idle call at cost 0. Any other cost, the same for all lots, would change nothing, so
+    /// no error is made of it.
     fn enlarged(self, book: &Book) -> Book {
         let mut large = Book { calls: book.calls + 1, ..book.clone() };
         for row in &mut large.costs {
@@ -103,6 +104,7 @@ impl Wrong {
         let mut run = self.returned(book, amounts, &given, flow);
         match self {
             Wrong::IdleUnitsPlaced => run.units += idle,
+            Wrong::BaseSubtractedForIdleUnits if book.version == 2 => run.cost -= 1_000_000 * idle as i64,
             Wrong::FlowWithIdleCall => run.flow.iter_mut().zip(wide).for_each(|(entry, units)| *entry = units as u32),
             Wrong::FullWhenIdleTakesTheRest if run.verdict == Verdict::Covered => run.verdict = Verdict::Full,
             _ => (),

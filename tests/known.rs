@@ -1,8 +1,9 @@
 //! Runs whose replies are known: the reference and the library are held to them.
+use crate::direct::run;
 use crate::files::{amounts_file, book_file, order_file};
-use crate::library::{accepted, refusal, run, Comparison, IDLE, PLAIN};
+use crate::library::{accepted, refusal, Comparison, IDLE, PLAIN};
 use crate::placing::Verdict;
-use crate::samples::{rows, Costs};
+use crate::samples::{rows, Costs, NO};
 use crate::sections::some_order;
 use crate::sys::Reply;
 
@@ -10,34 +11,34 @@ const BILLION: u64 = 1_000_000_000;
 
 /// A book with an order whose enlarged book has none. With costs 0 and 1 there is no smaller one.
 fn no_idle_order() -> Costs {
-    rows(&[&[-1, 1], &[0, 0], &[1, -1]])
+    rows(&[&[NO, 1], &[0, 0], &[1, NO]])
 }
 
 /// A book, amounts, and what finding and running comes to: verdict, units, cost.
-pub type Known = (Costs, Vec<u64>, (Verdict, u64, u64));
+pub type Known = (Costs, Vec<u64>, (Verdict, u64, i64));
 
 /// F1, F7, F8, F10, F11 and F12 of document 01. Then: a call lacks and a lot has units left at once, with equal totals and with each the
 /// larger; neither, and only the one or the other; costs above the least, which is promised for Full alone; a book that has no order
 /// with an idle call; 2 to the 32 units in all left, and lacking.
 pub fn known_runs() -> Vec<Known> {
-    let (cross, corner) = (rows(&[&[0, -1], &[-1, 0]]), rows(&[&[0, 0], &[0, -1]]));
+    let (cross, corner) = (rows(&[&[0, NO], &[NO, 0]]), rows(&[&[0, 0], &[0, NO]]));
     let many = [BILLION, BILLION, BILLION, BILLION, 294_967_296];
     vec![
         (rows(&[&[1, 2], &[3, 5]]), vec![5, 4, 3, 6], (Verdict::Full, 9, 24)),
         (corner.clone(), vec![1, 1, 1, 1], (Verdict::Full, 2, 0)),
         (corner, vec![2, 0, 1, 0], (Verdict::Covered, 1, 0)),
-        (rows(&[&[-1]]), vec![1, 1], (Verdict::Short, 0, 0)),
-        (rows(&[&[-1]]), vec![0, 0], (Verdict::Full, 0, 0)),
-        (rows(&[&[1_000_000]]), vec![BILLION, BILLION], (Verdict::Full, BILLION, 1_000_000 * BILLION)),
+        (rows(&[&[NO]]), vec![1, 1], (Verdict::Short, 0, 0)),
+        (rows(&[&[NO]]), vec![0, 0], (Verdict::Full, 0, 0)),
+        (rows(&[&[1_000_000]]), vec![BILLION, BILLION], (Verdict::Full, BILLION, 1_000_000 * BILLION as i64)),
         (cross.clone(), vec![2, 0, 1, 1], (Verdict::Short, 1, 0)),
         (cross.clone(), vec![5, 0, 1, 1], (Verdict::Short, 1, 0)),
         (cross.clone(), vec![2, 0, 1, 3], (Verdict::Short, 1, 0)),
         (cross.clone(), vec![0, 0, 0, 0], (Verdict::Full, 0, 0)),
         (cross.clone(), vec![0, 1, 0, 0], (Verdict::Covered, 0, 0)),
         (cross, vec![0, 0, 0, 1], (Verdict::Short, 0, 0)),
-        (rows(&[&[-1]]), vec![1, 0], (Verdict::Covered, 0, 0)),
-        (rows(&[&[7]]), vec![BILLION, BILLION - 1], (Verdict::Covered, BILLION - 1, 7 * (BILLION - 1))),
-        (rows(&[&[7]]), vec![BILLION - 1, BILLION], (Verdict::Short, BILLION - 1, 7 * (BILLION - 1))),
+        (rows(&[&[NO]]), vec![1, 0], (Verdict::Covered, 0, 0)),
+        (rows(&[&[7]]), vec![BILLION, BILLION - 1], (Verdict::Covered, BILLION - 1, 7 * (BILLION as i64 - 1))),
+        (rows(&[&[7]]), vec![BILLION - 1, BILLION], (Verdict::Short, BILLION - 1, 7 * (BILLION as i64 - 1))),
         (rows(&[&[5], &[1]]), vec![1, 1, 1], (Verdict::Covered, 1, 5)),
         (rows(&[&[5, 1]]), vec![1, 1, 1], (Verdict::Short, 1, 5)),
         (no_idle_order(), vec![1, 1, 1, 1, 1], (Verdict::Covered, 2, 1)),
@@ -65,7 +66,7 @@ pub fn one_unit() -> Vec<Known> {
 /// idle is the cheapest, and of equal ones that of the lowest lot, the idle call being the last; lots for which no real call is eligible;
 /// a call that lacks; idle amounts and totals above 32 bits.
 fn idle_runs() -> Vec<(Known, Vec<u32>)> {
-    let (f1, corner, cross, none) = (rows(&[&[1, 2], &[3, 5]]), rows(&[&[0, 0], &[0, -1]]), rows(&[&[0, -1], &[-1, 0]]), rows(&[&[-1]]));
+    let (f1, corner, cross, none) = (rows(&[&[1, 2], &[3, 5]]), rows(&[&[0, 0], &[0, NO]]), rows(&[&[0, NO], &[NO, 0]]), rows(&[&[NO]]));
     let (falling, zeros) = ((0..6).map(|i| vec![Some(6 - i)]).collect(), vec![vec![Some(0); 4]; 5]);
     let at_each = |step: usize, count: usize| -> Vec<u32> { (0..count).map(|k| if k % step == 0 { 1_000_000_000 } else { 0 }).collect() };
     vec![
@@ -77,18 +78,18 @@ fn idle_runs() -> Vec<(Known, Vec<u32>)> {
         ((none.clone(), vec![1, 1], (Verdict::Short, 0, 0)), vec![0]),
         ((none.clone(), vec![0, 0], (Verdict::Full, 0, 0)), vec![0]),
         ((none, vec![1, 0], (Verdict::Covered, 0, 0)), vec![0]),
-        ((rows(&[&[1_000_000]]), vec![BILLION, BILLION], (Verdict::Full, BILLION, 1_000_000 * BILLION)), vec![1_000_000_000]),
+        ((rows(&[&[1_000_000]]), vec![BILLION, BILLION], (Verdict::Full, BILLION, 1_000_000 * BILLION as i64)), vec![1_000_000_000]),
         ((rows(&[&[5], &[1]]), vec![1, 1, 2], (Verdict::Full, 2, 6)), vec![1, 1]),
         ((rows(&[&[5], &[1]]), vec![1, 1, 1], (Verdict::Covered, 1, 1)), vec![0, 1]),
         ((rows(&[&[0], &[0]]), vec![1, 1, 1], (Verdict::Covered, 1, 0)), vec![1, 0]),
-        ((rows(&[&[-1], &[5], &[1]]), vec![1, 1, 1, 1], (Verdict::Covered, 1, 1)), vec![0, 0, 1]),
-        ((rows(&[&[5], &[1], &[-1]]), vec![1, 1, 5, 2], (Verdict::Covered, 2, 6)), vec![1, 1, 0]),
+        ((rows(&[&[NO], &[5], &[1]]), vec![1, 1, 1, 1], (Verdict::Covered, 1, 1)), vec![0, 0, 1]),
+        ((rows(&[&[5], &[1], &[NO]]), vec![1, 1, 5, 2], (Verdict::Covered, 2, 6)), vec![1, 1, 0]),
         ((cross, vec![5, 0, 1, 1], (Verdict::Short, 1, 0)), vec![1, 0, 0, 0]),
         ((vec![vec![Some(0)]; 32], [vec![BILLION; 32], vec![0]].concat(), (Verdict::Covered, 0, 0)), vec![0; 32]),
         ((vec![vec![Some(0); 31]; 32], [vec![BILLION; 32], vec![0; 31]].concat(), (Verdict::Covered, 0, 0)), vec![0; 32 * 31]),
-        ((falling, vec![BILLION; 7], (Verdict::Covered, BILLION, BILLION)), vec![0, 0, 0, 0, 0, 1_000_000_000]),
+        ((falling, vec![BILLION; 7], (Verdict::Covered, BILLION, BILLION as i64)), vec![0, 0, 0, 0, 0, 1_000_000_000]),
         ((zeros, vec![BILLION; 9], (Verdict::Covered, 4 * BILLION, 0)), at_each(5, 20)),
-        ((vec![vec![Some(1); 5]; 5], vec![BILLION; 10], (Verdict::Full, 5 * BILLION, 5 * BILLION)), at_each(6, 25)),
+        ((vec![vec![Some(1); 5]; 5], vec![BILLION; 10], (Verdict::Full, 5 * BILLION, 5 * BILLION as i64)), at_each(6, 25)),
     ]
 }
 
@@ -116,38 +117,93 @@ fn idle_refused() -> Vec<(Costs, Vec<u64>, usize, u32)> {
     ]
 }
 
-/// One reply of the run with an idle call, and the buffer, which held nines.
-fn one_idle(c: &mut Comparison, costs: &Costs, amounts: &[u64], entries: usize, reply: Reply, written: &[u32]) {
-    let (book, amounts) = (book_file(costs), amounts_file(costs.len(), costs[0].len(), amounts));
-    let (mut flow, mut after) = (vec![9; entries], vec![9; entries]);
-    c.find_and_run(&book, &amounts, &flow);
-    let got = IDLE.run(&book, &amounts, &mut flow);
-    after[..written.len()].copy_from_slice(written);
-    c.count(got == reply && flow == after, || format!("idle: {costs:?} with {amounts:?}: {got:?} {flow:?}, known {reply:?} {after:?}"));
+/// Runs of version 2. F1 with two costs below zero; a cost of zero from costs above and below it; the lowest costs; placing less would
+/// cost less; a cost above the least, which is promised for Full alone; a book whose order is not the one of the sizes of its costs.
+pub fn known_rebates() -> Vec<Known> {
+    let (least, billion) = (-1_000_000, BILLION as i64);
+    vec![
+        (rows(&[&[1, -2], &[-3, 5]]), vec![5, 4, 3, 6], (Verdict::Full, 9, -14)),
+        (rows(&[&[-1, 1]]), vec![2, 1, 1], (Verdict::Full, 2, 0)),
+        (rows(&[&[-1]]), vec![0, 0], (Verdict::Full, 0, 0)),
+        (rows(&[&[-1]]), vec![1, 1], (Verdict::Full, 1, -1)),
+        (rows(&[&[least]]), vec![BILLION, BILLION], (Verdict::Full, BILLION, least * billion)),
+        (vec![vec![Some(least); 32]; 32], vec![BILLION; 64], (Verdict::Full, 32 * BILLION, 32 * least * billion)),
+        (rows(&[&[3, -1]]), vec![2, 1, 1], (Verdict::Full, 2, 2)),
+        (rows(&[&[5], &[-3]]), vec![2, 2, 2], (Verdict::Covered, 2, 10)),
+        (rows(&[&[-7]]), vec![BILLION, BILLION - 1], (Verdict::Covered, BILLION - 1, -7 * (billion - 1))),
+        (rows(&[&[-7]]), vec![BILLION - 1, BILLION], (Verdict::Short, BILLION - 1, -7 * (billion - 1))),
+        (rows(&[&[0, -1], &[-1, NO]]), vec![1, 1, 1, 1], (Verdict::Full, 2, -2)),
+        (rows(&[&[-2, -1], &[-4, -4]]), vec![1, 1, 1, 1], (Verdict::Full, 2, -6)),
+    ]
 }
 
-/// The runs with an idle call, each with a buffer of just the length, a longer one, and one that lacks an entry.
-pub fn known_idle(c: &mut Comparison) {
-    for ((costs, amounts, (verdict, units, cost)), flow) in idle_runs() {
+/// Runs of version 2 with an idle call, which costs 0 beside costs below zero, and the entries they write.
+fn idle_rebates() -> Vec<(Known, Vec<u32>)> {
+    let billion = BILLION as i64;
+    let first = [vec![1_000_000_000], vec![0; 31]].concat();
+    vec![
+        ((rows(&[&[5], &[-3]]), vec![2, 2, 2], (Verdict::Covered, 2, -6)), vec![0, 2]),
+        ((rows(&[&[1, -2], &[-3, 5]]), vec![5, 4, 3, 6], (Verdict::Full, 9, -14)), vec![0, 5, 3, 1]),
+        ((rows(&[&[1, -2], &[-3, 5]]), vec![5, 4, 3, 4], (Verdict::Covered, 7, -17)), vec![0, 4, 3, 0]),
+        ((rows(&[&[3], &[-1], &[0]]), vec![1, 1, 1, 2], (Verdict::Covered, 2, -1)), vec![0, 1, 1]),
+        ((rows(&[&[-1], &[1], &[NO]]), vec![1, 2, 3, 2], (Verdict::Covered, 2, 0)), vec![1, 1, 0]),
+        ((rows(&[&[-1]]), vec![1, 0], (Verdict::Covered, 0, 0)), vec![0]),
+        ((vec![vec![Some(-1_000_000)]; 32], vec![BILLION; 33], (Verdict::Covered, BILLION, -1_000_000 * billion)), first),
+    ]
+}
+
+/// One reply of the run with an idle call, and the buffer, which held nines.
+fn one_idle(c: &mut Comparison, book: &[u8], amounts: &[u8], entries: usize, reply: Reply, written: &[u32]) {
+    let (mut flow, mut after) = (vec![9; entries], vec![9; entries]);
+    c.find_and_run(book, amounts, &flow);
+    let got = IDLE.run(book, amounts, &mut flow);
+    after[..written.len()].copy_from_slice(written);
+    c.count(got == reply && flow == after, || format!("idle: {book:?} with {amounts:?}: {got:?} {flow:?}, known {reply:?} {after:?}"));
+}
+
+/// The two files of a version.
+fn files(version: u16, costs: &Costs, amounts: &[u64]) -> (Vec<u8>, Vec<u8>) {
+    (book_file(version, costs), amounts_file(costs.len(), costs[0].len(), amounts))
+}
+
+/// Runs with an idle call, each with a buffer of just the length, a longer one, and one that lacks an entry; and those that are refused.
+fn idle_of(c: &mut Comparison, version: u16, runs: Vec<(Known, Vec<u32>)>) {
+    for ((costs, amounts, (verdict, units, cost)), flow) in runs {
+        let (book, amounts) = files(version, &costs, &amounts);
         for more in [0, 1, 40] {
-            one_idle(c, &costs, &amounts, flow.len() + more, accepted(verdict, units, cost), &flow);
+            one_idle(c, &book, &amounts, flow.len() + more, accepted(verdict, units, cost), &flow);
         }
-        one_idle(c, &costs, &amounts, flow.len() - 1, refusal(17), &[]);
+        one_idle(c, &book, &amounts, flow.len() - 1, refusal(17), &[]);
     }
     for (costs, amounts, entries, number) in idle_refused() {
-        one_idle(c, &costs, &amounts, entries, refusal(number), &[]);
+        let (book, amounts) = files(version, &costs, &amounts);
+        one_idle(c, &book, &amounts, entries, refusal(number), &[]);
     }
 }
 
-/// The runs without an idle call.
-pub fn known(c: &mut Comparison) {
-    for (costs, amounts, (verdict, units, cost)) in known_runs().into_iter().chain(one_unit()) {
-        let (lots, calls, book) = (costs.len(), costs[0].len(), book_file(&costs));
-        let (order, amounts) = (order_file(&some_order(&costs)), amounts_file(lots, calls, &amounts));
-        c.find_and_run(&book, &amounts, &vec![9; lots * calls + 1]);
-        c.run_order(&book, &order, &amounts, &vec![9; lots * calls + 1]);
+/// Runs without an idle call.
+fn runs_of(c: &mut Comparison, version: u16, runs: Vec<Known>) {
+    for (costs, amounts, (verdict, units, cost)) in runs {
+        let (book, amounts) = files(version, &costs, &amounts);
+        let (order, flow) = (order_file(&some_order(&costs)), vec![9; costs.len() * costs[0].len() + 1]);
+        c.find_and_run(&book, &amounts, &flow);
+        c.run_order(&book, &order, &amounts, &flow);
         let reply = accepted(verdict, units, cost);
-        let got = [PLAIN.run(&book, &amounts, &mut [0; 1024]), run(&book, &order, &amounts)];
+        let got = [PLAIN.run(&book, &amounts, &mut [0; 1024]), run(&book, &order, &amounts, &mut [0; 1024])];
         c.count(got == [reply; 2], || format!("{costs:?} with {amounts:?}: {got:?}, known {reply:?}"));
     }
+}
+
+pub fn known(c: &mut Comparison) {
+    runs_of(c, 1, [known_runs(), one_unit()].concat());
+}
+
+pub fn known_idle(c: &mut Comparison) {
+    idle_of(c, 1, idle_runs());
+}
+
+/// The runs of version 2, and those of version 1 relabelled.
+pub fn rebates(c: &mut Comparison) {
+    runs_of(c, 2, [known_rebates(), known_runs()].concat());
+    idle_of(c, 2, [idle_rebates(), idle_runs()].concat());
 }

@@ -82,6 +82,9 @@ pub struct Finding {
 pub const PLAIN: Finding = Finding { name: "find_and_run", reference: Wrong::find_and_run, export: placer_find_and_run };
 pub const IDLE: Finding = Finding { name: "find_and_run_idle", reference: Wrong::find_and_run_idle, export: placer_find_and_run_idle };
 
+/// The printing program's name.
+pub const PLACE: &str = "place";
+
 /// How many cases there were, and how many of them differed.
 #[derive(Default)]
 pub struct Tally {
@@ -91,17 +94,19 @@ pub struct Tally {
     pub numbers: [u64; 20],
     /// How often each verdict was expected; 0 is no run.
     pub verdicts: [u64; 4],
+    /// How often a run's cost was expected to be below zero.
+    pub below_zero: u64,
 }
 
-/// Tallies by the name of the entry point; those of other cases have none.
-pub type Tallies = BTreeMap<&'static str, Tally>;
+/// Tallies by the name of the entry point, other cases having none, and by whether the book is of version 2.
+pub type Tallies = BTreeMap<(&'static str, bool), Tally>;
 
 /// The library against the reference, or against a wrong one.
 pub struct Comparison {
     pub wrong: Wrong,
     pub tallies: Tallies,
-    /// Of every reply, and of the order buffer and the flow after it.
-    stream: DefaultHasher,
+    /// Of every reply, and of the order buffer and the flow after it: with books of version 2, and with others.
+    streams: [DefaultHasher; 2],
     book: Guarded,
     order: Guarded,
     amounts: Guarded,
@@ -122,24 +127,25 @@ pub fn refusal(number: u32) -> Reply {
     reply(Err((number, Vec::new())))
 }
 
-pub fn accepted(verdict: Verdict, units: u64, cost: u64) -> Reply {
-    reply(Ok((verdict as u32, vec![units, cost])))
+pub fn accepted(verdict: Verdict, units: u64, cost: i64) -> Reply {
+    reply(Ok((verdict as u32, vec![units, cost as u64])))
 }
 
 impl Comparison {
     pub fn new(wrong: Wrong) -> Comparison {
         let room = |bytes| Guarded::new(bytes);
         let (book, order, amounts, flow) = (room(20_000), room(140_000), room(8_000), room(8_000));
-        Comparison { wrong, tallies: Tallies::new(), stream: DefaultHasher::new(), book, order, amounts, flow }
+        Comparison { wrong, tallies: Tallies::new(), streams: Default::default(), book, order, amounts, flow }
     }
 
-    /// A digest of what the library replied and wrote: two builds that reply and write alike have the same.
-    pub fn digest(&self) -> u64 {
-        self.stream.finish()
+    /// Digests of what the library replied and wrote, with books of version 2 and with others: two builds that reply and write alike have
+    /// the same.
+    pub fn digests(&self) -> [u64; 2] {
+        [self.streams[0].finish(), self.streams[1].finish()]
     }
 
-    fn tally(&mut self, name: &'static str, same: bool, what: impl Fn() -> String) -> &mut Tally {
-        let tally = self.tallies.entry(name).or_default();
+    fn tally(&mut self, name: &'static str, version_2: bool, same: bool, what: impl Fn() -> String) -> &mut Tally {
+        let tally = self.tallies.entry((name, version_2)).or_default();
         tally.cases += 1;
         tally.differences += !same as u64;
         if !same && self.wrong == Wrong::Nothing && tally.differences <= 5 {
@@ -150,7 +156,12 @@ impl Comparison {
 
     /// A case of no entry point by itself.
     pub fn count(&mut self, same: bool, what: impl Fn() -> String) {
-        self.tally("", same, what);
+        self.tally("", false, same, what);
+    }
+
+    /// A case of the printing program.
+    pub fn count_printed(&mut self, same: bool, what: impl Fn() -> String) {
+        self.tally(PLACE, false, same, what);
     }
 
     fn compare(
@@ -163,16 +174,19 @@ impl Comparison {
     ) {
         let parts = (self.book.put(lent.book), self.order.put(lent.order), self.amounts.put(lent.amounts), self.flow.put(lent.flow));
         let got = call(parts.0, parts.1, parts.2, parts.3);
-        (got.number, got.verdict, got.values, self.order.items(parts.1), self.flow.items(parts.3)).hash(&mut self.stream);
+        let version_2 = lent.book.get(3..5) == Some(&[2, 0]);
+        let stream = &mut self.streams[!version_2 as usize];
+        (got.number, got.verdict, got.values, self.order.items(parts.1), self.flow.items(parts.3)).hash(stream);
         let same = got == expected
             && self.book.holds(after.book)
             && self.order.holds(after.order)
             && self.amounts.holds(after.amounts)
             && self.flow.holds(after.flow);
         let what = || format!("{name}\n  lent {lent:?}\n  got {got:?}\n  expected {expected:?} and {after:?}");
-        let tally = self.tally(name, same, what);
+        let tally = self.tally(name, version_2, same, what);
         tally.numbers[expected.number as usize] += 1;
         tally.verdicts[expected.verdict as usize] += 1;
+        tally.below_zero += (expected.verdict > 0 && (expected.values[1] as i64) < 0) as u64;
     }
 
     pub fn read_book(&mut self, book: &[u8]) {
@@ -192,7 +206,7 @@ impl Comparison {
     }
 
     pub fn pair_cost(&mut self, book: &[u8], lot: usize, call: usize) {
-        let expected = reply(self.wrong.pair_cost(book, lot, call).map(|(eligible, cost)| (0, vec![eligible, cost])));
+        let expected = reply(self.wrong.pair_cost(book, lot, call).map(|(eligible, cost)| (0, vec![eligible, cost as u64])));
         let lent = Lent { book, ..Lent::default() };
         self.compare("pair_cost", lent, expected, lent, |b, _, _, _| unsafe { placer_pair_cost(b.0, b.1, lot, call) });
     }
@@ -227,7 +241,7 @@ impl Comparison {
         call: impl Fn(Part<u8>, Part<u8>, Part<u8>, Part<u32>) -> Reply,
     ) {
         let (expected, after) = match run {
-            Ok(run) => (Ok((run.verdict as u32, vec![run.units, run.cost])), run.flow),
+            Ok(run) => (Ok((run.verdict as u32, vec![run.units, run.cost as u64])), run.flow),
             Err(refused) => (Err(refused), lent.flow.to_vec()),
         };
         self.compare(name, lent, reply(expected), Lent { flow: &after, ..lent }, call);
@@ -251,25 +265,8 @@ impl Comparison {
     }
 }
 
-/// The library's own answers, for the checks that do not compare: an order's file, whether an order passes, and the runs.
-pub fn found(book: &[u8]) -> Option<Vec<u8>> {
-    let mut order = vec![0; 2055];
-    let got = unsafe { placer_find_order(book.as_ptr(), book.len(), order.as_mut_ptr(), order.len()) };
-    order.truncate(got.values[0] as usize);
-    (got.number == 0).then_some(order)
-}
-
-pub fn passes(book: &[u8], order: &[u8]) -> bool {
-    unsafe { placer_check_order(book.as_ptr(), book.len(), order.as_ptr(), order.len()).number == 0 }
-}
-
-pub fn run(book: &[u8], order: &[u8], amounts: &[u8]) -> Reply {
-    let mut flow = [0; 1024];
-    let (b, o, a) = (book.as_ptr(), order.as_ptr(), amounts.as_ptr());
-    unsafe { placer_run_order(b, book.len(), o, order.len(), a, amounts.len(), flow.as_mut_ptr(), flow.len()) }
-}
-
 impl Finding {
+    /// The library's own answer.
     pub fn run(&self, book: &[u8], amounts: &[u8], flow: &mut [u32]) -> Reply {
         unsafe { (self.export)(book.as_ptr(), book.len(), amounts.as_ptr(), amounts.len(), flow.as_mut_ptr(), flow.len()) }
     }

@@ -13,9 +13,10 @@ type Places = Vec<Vec<Option<usize>>>;
 /// A readable book: the cost of each pair, `None` where it is not eligible, and where in the file each lot's word stands.
 #[derive(Clone)]
 pub struct Book {
+    pub version: usize,
     pub lots: usize,
     pub calls: usize,
-    pub costs: Vec<Vec<Option<u64>>>,
+    pub costs: Vec<Vec<Option<i64>>>,
     pub words: Vec<usize>,
 }
 
@@ -23,12 +24,28 @@ pub fn refuse<T>(number: u32, values: &[usize]) -> Result<T, Refused> {
     Err((number, values.iter().map(|&v| v as u64).collect()))
 }
 
+fn bytes(file: &[u8], at: usize) -> [u8; 4] {
+    [file[at], file[at + 1], file[at + 2], file[at + 3]]
+}
+
 fn word(file: &[u8], at: usize) -> usize {
-    (0..4).map(|k| (file[at + k] as usize) << (8 * k)).sum()
+    u32::from_le_bytes(bytes(file, at)) as usize
 }
 
 impl Wrong {
-    fn opening(self, file: &[u8], mark: &[u8; 3]) -> Result<(), Refused> {
+    /// The versions that a file may have.
+    fn versions(self, mark: &[u8; 3]) -> &[usize] {
+        match (self, mark) {
+            (Wrong::BookOfVersion0, b"CLB") => &[0, 1, 2],
+            (Wrong::BookOfVersion1Alone, b"CLB") => &[1],
+            (Wrong::BookOfVersion3, b"CLB") => &[1, 2, 3],
+            (Wrong::OrderOfVersion2, b"CLO") | (Wrong::AmountsOfVersion2, b"CLA") | (_, b"CLB") => &[1, 2],
+            _ => &[1],
+        }
+    }
+
+    /// The version of a file that opens as it must.
+    fn opening(self, file: &[u8], mark: &[u8; 3]) -> Result<usize, Refused> {
         if self == Wrong::MarkBeforeLength && file.len() >= 3 && &file[..3] != mark {
             return refuse(2, &[]);
         }
@@ -39,27 +56,43 @@ impl Wrong {
             return refuse(2, &[]);
         }
         let version = file[3] as usize + 256 * if self == Wrong::VersionByteAlone { 0 } else { file[4] as usize };
-        if version != 1 {
+        if !self.versions(mark).contains(&version) {
             return refuse(3, &[]);
         }
-        Ok(())
+        Ok(version)
     }
 
-    fn too_high(self, amount: usize, limit: usize) -> bool {
-        amount > limit || (self == Wrong::LimitExcluded && amount == limit)
+    fn too_high(self, number: i64, limit: i64) -> bool {
+        number > limit || (self == Wrong::LimitExcluded && number == limit)
+    }
+
+    /// A cost in the range of its book's version: 0 to 1,000,000 in version 1; signed, two's complement, from -1,000,000 in version 2.
+    fn cost(self, version: usize, bytes: [u8; 4]) -> Option<i64> {
+        let (plain, signed) = (u32::from_le_bytes(bytes) as i64, i32::from_le_bytes(bytes) as i64);
+        let (cost, least, most) = match self {
+            Wrong::SignedInVersion1 => (signed, -1_000_000, 1_000_000),
+            _ if version == 1 => (plain, 0, 1_000_000),
+            Wrong::UnsignedInVersion2 => (plain, 0, 1_000_000),
+            Wrong::SignAndSize => (if signed < 0 { (1 << 31) - plain } else { plain }, -1_000_000, 1_000_000),
+            Wrong::LeastCostExcluded => (signed, -999_999, 1_000_000),
+            Wrong::OneBelowTheLeastCost => (signed, -1_000_001, 1_000_000),
+            Wrong::CostToTwoMillion => (signed, -1_000_000, 2_000_000),
+            _ => (signed, -1_000_000, 1_000_000),
+        };
+        (cost >= least && !self.too_high(cost, most)).then_some(cost)
     }
 
     pub fn read_book(self, file: &[u8]) -> Result<Book, Refused> {
-        self.opening(file, b"CLB")?;
+        let version = self.opening(file, b"CLB")?;
         let (lots, calls) = (file[5] as usize, file[6] as usize);
         if lots == 0 || lots > 32 || calls == 0 || calls > 32 {
             return refuse(4, &[]);
         }
-        let mut book = Book { lots, calls, costs: Vec::new(), words: Vec::new() };
+        let mut book = Book { version, lots, calls, costs: Vec::new(), words: Vec::new() };
         let mut at = 7;
-        for lot in 0..lots {
+        for _ in 0..lots {
+            let row = self.row(&book, file, at)?;
             book.words.push(at);
-            let row = self.row(file, at, lot, calls)?;
             at += 4 + 4 * row.iter().flatten().count();
             book.costs.push(row);
         }
@@ -69,8 +102,9 @@ impl Wrong {
         Ok(book)
     }
 
-    /// The row of a lot, which starts at a byte of the file.
-    fn row(self, file: &[u8], at: usize, lot: usize, calls: usize) -> Result<Vec<Option<u64>>, Refused> {
+    /// The row of the lot after those that were read, which starts at a byte of the file.
+    fn row(self, book: &Book, file: &[u8], at: usize) -> Result<Vec<Option<i64>>, Refused> {
+        let (lot, calls) = (book.costs.len(), book.calls);
         if file.len() < at + 4 {
             return refuse(6, &[]);
         }
@@ -88,10 +122,10 @@ impl Wrong {
             if file.len() < at + 4 {
                 return refuse(6, &[]);
             }
-            if self.too_high(word(file, at), 1_000_000) {
+            row[call] = self.cost(book.version, bytes(file, at));
+            if row[call].is_none() {
                 return refuse(7, &[lot, if self == Wrong::PositionForCall { position } else { call }]);
             }
-            row[call] = Some(word(file, at) as u64);
         }
         Ok(row)
     }
@@ -112,10 +146,11 @@ impl Wrong {
     }
 
     /// Whether a pair is eligible, 1 or 0, and its cost or 0.
-    pub fn pair_cost(self, file: &[u8], lot: usize, call: usize) -> Result<(u64, u64), Refused> {
+    pub fn pair_cost(self, file: &[u8], lot: usize, call: usize) -> Result<(u64, i64), Refused> {
         let book = self.read_book(file)?;
         let (lot, call) = if self == Wrong::PairTurnedRound { (call, lot) } else { (lot, call) };
         match book.costs.get(lot).and_then(|row| row.get(call)) {
+            Some(Some(cost)) if self == Wrong::PairCostIn32Bits => Ok((1, *cost as u32 as i64)),
             Some(Some(cost)) => Ok((1, *cost)),
             Some(None) if self == Wrong::NotEligibleCostsNothing => Ok((1, 0)),
             _ => Ok((0, 0)),
@@ -137,7 +172,7 @@ impl Wrong {
             return refuse(8, &[]);
         }
         let amounts: Vec<usize> = (0..count).map(|k| word(file, 7 + 4 * k)).collect();
-        if amounts.iter().any(|&a| self.too_high(a, 1_000_000_000)) {
+        if amounts.iter().any(|&a| self.too_high(a as i64, 1_000_000_000)) {
             return refuse(16, &[]);
         }
         if too_long {
@@ -155,7 +190,8 @@ impl Wrong {
 
     /// The check's condition for one quadruple: the refusal's number where it fails.
     pub fn crossing(self, book: &Book, (i, j): Pair, (k, l): Pair) -> Option<u32> {
-        let cost = |i: usize, j: usize| book.costs[i][j].unwrap_or(0);
+        let signed = |i: usize, j: usize| book.costs[i][j].unwrap_or(0);
+        let cost = |i: usize, j: usize| if self == Wrong::SumsUnsigned { signed(i, j) as u32 as i64 } else { signed(i, j) };
         let (row, column) = if self == Wrong::CrossPairTurnedRound { (l, k) } else { (k, l) };
         if book.costs.get(row).map_or(true, |costs| costs.get(column).map_or(true, Option::is_none)) {
             match self {

@@ -2,7 +2,7 @@
 use crate::files::book_file;
 use crate::reference::Pair;
 
-pub type Costs = Vec<Vec<Option<u64>>>;
+pub type Costs = Vec<Vec<Option<i64>>>;
 
 pub struct Random(pub u64);
 
@@ -29,6 +29,14 @@ impl Random {
 
     pub fn numbers(&mut self, count: usize, bound: u64) -> Vec<u64> {
         (0..count).map(|_| self.below(bound)).collect()
+    }
+
+    pub fn cost(&mut self, bound: u64) -> i64 {
+        self.below(bound) as i64
+    }
+
+    pub fn costs(&mut self, count: usize, bound: u64) -> Vec<i64> {
+        (0..count).map(|_| self.cost(bound)).collect()
     }
 
     pub fn shuffle<T>(&mut self, items: &mut [T]) {
@@ -74,9 +82,9 @@ pub const KINDS: [Kind; 9] = [
 
 /// Costs a_i + b_j - w i j, raised so that none is negative: lot by lot and call by call they are a Monge array.
 fn monge(random: &mut Random, lots: usize, calls: usize) -> Costs {
-    let (a, b, w) = (random.numbers(lots, 50), random.numbers(calls, 50), random.below(4));
-    let top = w * (lots * calls) as u64;
-    (0..lots).map(|i| (0..calls).map(|j| Some(top + a[i] + b[j] - w * (i * j) as u64)).collect()).collect()
+    let (a, b, w) = (random.costs(lots, 50), random.costs(calls, 50), random.cost(4));
+    let top = w * (lots * calls) as i64;
+    (0..lots).map(|i| (0..calls).map(|j| Some(top + a[i] + b[j] - w * (i * j) as i64)).collect()).collect()
 }
 
 pub fn permuted(random: &mut Random, mut costs: Costs) -> Costs {
@@ -95,7 +103,7 @@ fn permuted_monge(random: &mut Random, lots: usize, calls: usize) -> Costs {
 /// within a lot stay, so an order stays one; and an idle call is like that call. A book whose costs would exceed the limit stays.
 pub fn even(random: &mut Random, costs: &mut Costs) {
     let call = random.below(costs[0].len() as u64) as usize;
-    let moved = |row: &Vec<Option<u64>>, cost: u64| 1_000_000 + cost - row[call].unwrap_or(0);
+    let moved = |row: &Vec<Option<i64>>, cost: i64| cost - row[call].unwrap_or(0);
     let each = || costs.iter().flat_map(|row| row.iter().flatten().map(|&cost| moved(row, cost)));
     let (least, greatest) = (each().min().unwrap_or(0), each().max().unwrap_or(0));
     if greatest - least <= 1_000_000 {
@@ -104,18 +112,18 @@ pub fn even(random: &mut Random, costs: &mut Costs) {
 }
 
 pub fn costs(random: &mut Random, kind: Kind, lots: usize, calls: usize) -> Costs {
-    let mut each = |cell: &mut dyn FnMut(&mut Random) -> Option<u64>| -> Costs {
+    let mut each = |cell: &mut dyn FnMut(&mut Random) -> Option<i64>| -> Costs {
         (0..lots).map(|_| (0..calls).map(|_| cell(random)).collect()).collect()
     };
     match kind {
-        Kind::Dense => each(&mut |r| Some(r.below(10))),
-        Kind::Sparse => each(&mut |r| r.chance(30).then(|| r.below(4))),
+        Kind::Dense => each(&mut |r| Some(r.cost(10))),
+        Kind::Sparse => each(&mut |r| r.chance(30).then(|| r.cost(4))),
         Kind::AtLimits => each(&mut |r| r.chance(90).then(|| r.pick(&[0, 1, 999_999, 1_000_000]))),
-        Kind::NearlyNothing => each(&mut |r| r.chance(3).then(|| r.below(3))),
+        Kind::NearlyNothing => each(&mut |r| r.chance(3).then(|| r.cost(3))),
         Kind::Monge => monge(random, lots, calls),
         Kind::Permuted => permuted_monge(random, lots, calls),
         Kind::SumWithGaps => {
-            let (a, b) = (random.numbers(lots, 20), random.numbers(calls, 20));
+            let (a, b) = (random.costs(lots, 20), random.costs(calls, 20));
             let percent = random.pick(&[80, 95]);
             (0..lots).map(|i| (0..calls).map(|j| random.chance(percent).then_some(a[i] + b[j])).collect()).collect()
         }
@@ -180,7 +188,7 @@ pub fn all<T: Copy>(choices: &[T], count: usize) -> Vec<Vec<T>> {
 }
 
 /// All books of a size with cells from `choices`.
-pub fn all_books(lots: usize, calls: usize, choices: &[Option<u64>]) -> Vec<Costs> {
+pub fn all_books(lots: usize, calls: usize, choices: &[Option<i64>]) -> Vec<Costs> {
     all(choices, lots * calls).iter().map(|cells| cells.chunks(calls).map(<[_]>::to_vec).collect()).collect()
 }
 
@@ -225,22 +233,25 @@ fn damaged_twice(file: &[u8]) -> impl Iterator<Item = Vec<u8>> + '_ {
     })
 }
 
-/// A book by rows of costs, -1 where a pair is not eligible.
+/// In the place of a cost: the pair is not eligible.
+pub const NO: i64 = i64::MAX;
+
+/// A book by rows of costs.
 pub fn rows(rows: &[&[i64]]) -> Costs {
-    rows.iter().map(|row| row.iter().map(|&cost| u64::try_from(cost).ok()).collect()).collect()
+    rows.iter().map(|row| row.iter().map(|&cost| (cost != NO).then_some(cost)).collect()).collect()
 }
 
 /// Books for the damage: small ones, one with every bit of a word, and one with gaps.
 pub fn stored_books() -> Vec<Vec<u8>> {
     vec![
-        book_file(&rows(&[&[1, 2], &[3, 5]])),
-        book_file(&rows(&[&[1, 2], &[3, 4]])),
-        book_file(&rows(&[&[0, 0], &[0, -1]])),
-        book_file(&rows(&[&[-1, 0, 0], &[0, -1, 0], &[0, 0, -1]])),
-        book_file(&rows(&[&[-1]])),
-        book_file(&rows(&[&[1_000_000]])),
-        book_file(&rows(&[&[3, -1, 7, 256], &[-1, -1, -1, -1], &[-1, 9, -1, 65_536]])),
-        book_file(&vec![(0..32).map(Some).collect(); 1]),
-        book_file(&vec![vec![Some(5)]; 32]),
+        book_file(1, &rows(&[&[1, 2], &[3, 5]])),
+        book_file(1, &rows(&[&[1, 2], &[3, 4]])),
+        book_file(1, &rows(&[&[0, 0], &[0, NO]])),
+        book_file(1, &rows(&[&[NO, 0, 0], &[0, NO, 0], &[0, 0, NO]])),
+        book_file(1, &rows(&[&[NO]])),
+        book_file(1, &rows(&[&[1_000_000]])),
+        book_file(1, &rows(&[&[3, NO, 7, 256], &[NO, NO, NO, NO], &[NO, 9, NO, 65_536]])),
+        book_file(1, &vec![(0..32).map(Some).collect(); 1]),
+        book_file(1, &vec![vec![Some(5)]; 32]),
     ]
 }

@@ -1,15 +1,16 @@
 //! What is tried, in sections. Each calls the library by a `Comparison`.
 use crate::files::{amounts_file, book_file, order_file};
 use crate::library::Comparison;
+use crate::rebates::in_version;
 use crate::reference::Pair;
 use crate::samples::{all, all_books, amounts, costs, damaged, pairs, permutations, Costs, Kind, Random, KINDS};
 use crate::wrong::Wrong;
 
 const FAR: [usize; 6] = [32, 255, 256, 1 << 32, (1 << 32) + 1, usize::MAX];
 
-/// An order of the book, or of its pairs as they stand where there is none.
+/// An order of the book, of whichever version, or of its pairs as they stand where there is none.
 pub fn some_order(costs: &Costs) -> Vec<Pair> {
-    Wrong::Nothing.read_book(&book_file(costs)).ok().and_then(|book| Wrong::Nothing.find(&book)).unwrap_or_else(|| pairs(costs))
+    Wrong::Nothing.read_book(&book_file(2, costs)).ok().and_then(|book| Wrong::Nothing.find(&book)).unwrap_or_else(|| pairs(costs))
 }
 
 /// The cost of every pair of a book, and of pairs next to them.
@@ -28,12 +29,26 @@ fn read_and_find(c: &mut Comparison, random: &mut Random, book: &[u8], lengths: 
     lengths.for_each(|length| c.find_order(book, &random.bytes(length)));
 }
 
-/// Every book up to 2 by 2 with few costs: every order, buffers of every length, every small amount.
-pub fn small_books(c: &mut Comparison) {
+/// The check, the amounts and the runs.
+fn check_and_run(c: &mut Comparison, book: &[u8], order: &[u8], amounts: &[u8], flow: &[u32]) {
+    c.check_order(book, order);
+    c.read_amounts(book, amounts);
+    c.run_order(book, order, amounts, flow);
+    c.find_and_run(book, amounts, flow);
+}
+
+/// Every entry point.
+pub fn every_entry(c: &mut Comparison, random: &mut Random, book: &[u8], order: &[u8], amounts: &[u8], flow: &[u32]) {
+    read_and_find(c, random, book, [7 + 2 * flow.len()].into_iter());
+    check_and_run(c, book, order, amounts, flow);
+}
+
+/// Every book up to 2 by 2 with cells from `cells`: every order, buffers of every length, every small amount.
+pub fn small_books(c: &mut Comparison, version: u16, cells: &[Option<i64>]) {
     let random = &mut Random(1);
     for (lots, calls) in [(1, 1), (1, 2), (2, 1), (2, 2)] {
-        for costs in all_books(lots, calls, &[None, Some(0), Some(1), Some(2)]) {
-            let book = book_file(&costs);
+        for costs in all_books(lots, calls, cells) {
+            let book = book_file(version, &costs);
             let own = pairs(&costs);
             read_and_find(c, random, &book, 0..7 + 2 * own.len() + 4);
             all_pairs(c, &book);
@@ -58,10 +73,10 @@ pub fn small_books(c: &mut Comparison) {
     }
 }
 
-/// Every book of 3 by 3 with cells none, 0 and 1: the finder, and the check of what it should find.
-pub fn three_by_three(c: &mut Comparison) {
-    for costs in all_books(3, 3, &[None, Some(0), Some(1)]) {
-        let book = book_file(&costs);
+/// Every book of 3 by 3 with cells from `cells`: the finder, and the check of what it should find.
+pub fn three_by_three(c: &mut Comparison, version: u16, cells: &[Option<i64>]) {
+    for costs in all_books(3, 3, cells) {
+        let book = book_file(version, &costs);
         c.find_order(&book, &[7; 26]);
         c.check_order(&book, &order_file(&some_order(&costs)));
     }
@@ -90,9 +105,10 @@ fn changed(random: &mut Random, order: &[Pair], lots: usize, calls: usize) -> Ve
 }
 
 /// One random book with orders and amounts.
-fn random_book(c: &mut Comparison, random: &mut Random, kind: Kind, lots: usize, calls: usize, orders: usize) {
+fn random_book(c: &mut Comparison, random: &mut Random, version: u16, kind: Kind, (lots, calls): (usize, usize), orders: usize) {
     let costs = costs(random, kind, lots, calls);
-    let book = book_file(&costs);
+    let costs = in_version(random, version, costs);
+    let book = book_file(version, &costs);
     let found = some_order(&costs);
     let length = 7 + 2 * found.len();
     let more = random.below(40) as usize;
@@ -103,26 +119,23 @@ fn random_book(c: &mut Comparison, random: &mut Random, kind: Kind, lots: usize,
         let amounts = amounts_file(lots, calls, &amounts(random, &costs));
         let entries = lots * calls + random.pick(&[0, 0, 1, 40]) - random.chance(5) as usize;
         let flow = random.entries(entries);
-        c.check_order(&book, &order);
-        c.read_amounts(&book, &amounts);
-        c.run_order(&book, &order, &amounts, &flow);
-        c.find_and_run(&book, &amounts, &flow);
+        check_and_run(c, &book, &order, &amounts, &flow);
     }
 }
 
-pub fn random_books(c: &mut Comparison, count: usize, most: u64, orders: usize) {
+pub fn random_books(c: &mut Comparison, version: u16, count: usize, most: u64, orders: usize) {
     let random = &mut Random(2 + most);
     for _ in 0..count {
         let (lots, calls, kind) = (1 + random.below(most) as usize, 1 + random.below(most) as usize, random.pick(&KINDS));
-        random_book(c, random, kind, lots, calls, orders);
+        random_book(c, random, version, kind, (lots, calls), orders);
     }
 }
 
 /// Books with 32 lots or calls, of each kind.
-pub fn largest_books(c: &mut Comparison) {
+pub fn largest_books(c: &mut Comparison, version: u16) {
     let random = &mut Random(40);
-    for (lots, calls) in [(32, 32), (32, 31), (31, 32), (32, 2), (2, 32)] {
-        KINDS.iter().for_each(|&kind| random_book(c, random, kind, lots, calls, 4));
+    for size in [(32, 32), (32, 31), (31, 32), (32, 2), (2, 32)] {
+        KINDS.iter().for_each(|&kind| random_book(c, random, version, kind, size, 4));
     }
 }
 
@@ -139,10 +152,7 @@ pub fn damage(c: &mut Comparison, books: &[Vec<u8>]) {
         let flow = random.entries(lots * calls + 2);
         for book in damaged(book) {
             read_and_find(c, random, &book, [7 + 2 * lots * calls].into_iter());
-            c.check_order(&book, &order);
-            c.read_amounts(&book, &amounts);
-            c.run_order(&book, &order, &amounts, &flow);
-            c.find_and_run(&book, &amounts, &flow);
+            check_and_run(c, &book, &order, &amounts, &flow);
         }
         for order in damaged(&order) {
             c.check_order(book, &order);
@@ -162,10 +172,10 @@ pub fn damage(c: &mut Comparison, books: &[Vec<u8>]) {
     }
 }
 
-/// The largest books with so many calls: every amount at its limit, and only those of the lots.
-fn largest(c: &mut Comparison, random: &mut Random, calls: usize) {
-    let most = vec![vec![Some(1_000_000); calls]; 32];
-    let (book, order) = (book_file(&most), order_file(&pairs(&most)));
+/// The largest books with so many calls, all at one cost: every amount at its limit, and only those of the lots.
+pub fn largest(c: &mut Comparison, random: &mut Random, version: u16, cost: i64, calls: usize) {
+    let costs = vec![vec![Some(cost); calls]; 32];
+    let (book, order) = (book_file(version, &costs), order_file(&pairs(&costs)));
     for wanted in [1_000_000_000, 0] {
         let amounts = amounts_file(32, calls, &[vec![1_000_000_000; 32], vec![wanted; calls]].concat());
         for length in [32 * calls - 2, 32 * calls - 1, 32 * calls, 32 * calls + 1, 1500] {
@@ -193,8 +203,8 @@ pub fn limits(c: &mut Comparison) {
             for &(i, j) in &pairs(&zeros) {
                 let mut costs = zeros.clone();
                 costs[i][j] = Some(cost);
-                c.read_book(&book_file(&costs));
-                c.check_order(&book_file(&costs), &order);
+                c.read_book(&book_file(1, &costs));
+                c.check_order(&book_file(1, &costs), &order);
             }
         }
         for amount in [999_999_999, 1_000_000_000, 1_000_000_001, 1 << 31, (1 << 32) - 1] {
@@ -202,15 +212,14 @@ pub fn limits(c: &mut Comparison) {
                 let mut amounts = random.numbers(lots + calls, 3);
                 amounts[at] = amount;
                 let amounts = amounts_file(lots, calls, &amounts);
-                c.read_amounts(&book_file(&zeros), &amounts);
+                c.read_amounts(&book_file(1, &zeros), &amounts);
                 let flow = random.entries(lots * calls);
-                c.run_order(&book_file(&zeros), &order, &amounts, &flow);
-                c.find_and_run(&book_file(&zeros), &amounts, &flow);
+                c.run_order(&book_file(1, &zeros), &order, &amounts, &flow);
+                c.find_and_run(&book_file(1, &zeros), &amounts, &flow);
             }
         }
     }
-    largest(c, random, 31);
-    largest(c, random, 32);
+    [31, 32].into_iter().for_each(|calls| largest(c, random, 1, 1_000_000, calls));
 }
 
 /// Order files of many pairs: repeated, outside after a whole order, and absent.
@@ -218,7 +227,7 @@ pub fn long_orders(c: &mut Comparison) {
     let random = &mut Random(5);
     for (lots, calls) in [(1, 1), (2, 2), (5, 4), (32, 32)] {
         let costs = vec![vec![Some(0); calls]; lots];
-        let (book, own) = (book_file(&costs), pairs(&costs));
+        let (book, own) = (book_file(1, &costs), pairs(&costs));
         for count in [255, 256, 300, 1023, 1024, 1025, 4096, 32_768, 65_535] {
             let repeated: Vec<Pair> = own.iter().cycle().take(count).copied().collect();
             let mut outside = repeated.clone();

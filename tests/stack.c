@@ -1,7 +1,7 @@
 /* Measures the stack that each call takes on the largest book, with an order that passes and with one that fails, and on that book less
- * one pair, which the finder searches in another way; the run with an idle call on the largest book that it takes, of 31 calls. The call
- * runs in a thread whose stack was filled with a pattern. Fails if a call takes more than the header says. bench/run puts the figures on
- * its page. */
+ * one pair, which the finder searches in another way; the run with an idle call on the largest book that it takes, of 31 calls; and the
+ * longest calls on books of version 2. The call runs in a thread whose stack was filled with a pattern. Fails if a call takes more than
+ * the header says. bench/run puts the figures on its page. */
 #define _GNU_SOURCE
 #include <pthread.h>
 #include <stdio.h>
@@ -18,7 +18,7 @@ struct desk {
     size_t book_len, amounts_len;
 };
 
-static struct desk largest, less_one, of_31, of_31_less_one;
+static struct desk largest, less_one, of_31, of_31_less_one, rebates, rebates_of_31;
 static const struct desk *on;
 static uint8_t order[PLACER_ORDER_MAX] = "CLO\1\0\0\4";
 static uint32_t flow[PLACER_FLOW_MAX];
@@ -30,16 +30,18 @@ static uint8_t *put(uint8_t *at, uint32_t value)
     return at + 4;
 }
 
-/* All pairs, less so many of lot 0 with the last calls; every amount at the limit. */
-static void fill(struct desk *desk, uint32_t calls, uint32_t missing)
+/* All pairs, less so many of lot 0 with the last calls, in version 2 at costs below zero; every amount at the limit. */
+static void fill(struct desk *desk, uint8_t version, uint32_t calls, uint32_t missing)
 {
     uint8_t *at = desk->book + 7;
+    uint32_t rebate = version == 2 ? PLACER_COST_MAX : 0;
     memcpy(desk->book, "CLB\1", 5), memcpy(desk->amounts, "CLA\1", 5);
+    desk->book[3] = version;
     desk->book[5] = desk->amounts[5] = LOTS, desk->book[6] = desk->amounts[6] = (uint8_t)calls;
     for (uint32_t lot = 0; lot < LOTS; lot++) {
         uint32_t count = lot == 0 ? calls - missing : calls;
         at = put(at, UINT32_MAX >> (32 - count));
-        for (uint32_t call = 0; call < count; call++) at = put(at, 1000 - lot * call);
+        for (uint32_t call = 0; call < count; call++) at = put(at, 1000 - lot * call - rebate);
     }
     desk->book_len = (size_t)(at - desk->book);
     at = desk->amounts + 7;
@@ -105,8 +107,11 @@ int main(void)
                  {"find_and_run_idle, 31 calls", find_and_run_idle, &of_31, 0},
                  {"find_order, a pair missing", find_order, &less_one, 0},
                  {"find_and_run, a pair missing", find_and_run, &less_one, 0},
-                 {"find_and_run_idle, 31 calls, a pair missing", find_and_run_idle, &of_31_less_one, 0}};
-    fill(&largest, 32, 0), fill(&less_one, 32, 1), fill(&of_31, 31, 0), fill(&of_31_less_one, 31, 1);
+                 {"find_and_run_idle, 31 calls, a pair missing", find_and_run_idle, &of_31_less_one, 0},
+                 {"find_and_run, version 2", find_and_run, &rebates, 0},
+                 {"find_and_run_idle, 31 calls, version 2", find_and_run_idle, &rebates_of_31, 0}};
+    fill(&largest, 1, 32, 0), fill(&less_one, 1, 32, 1), fill(&of_31, 1, 31, 0), fill(&of_31_less_one, 1, 31, 1);
+    fill(&rebates, 2, 32, 0), fill(&rebates_of_31, 2, 31, 0);
     for (size_t k = 0; k < 1024; k++) order[7 + 2 * k] = (uint8_t)(k / 32), order[8 + 2 * k] = (uint8_t)(31 - k % 32);
     size_t before = used(nothing), most = 0;
     for (size_t k = 0; k < sizeof calls / sizeof calls[0]; k++) {

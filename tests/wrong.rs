@@ -11,6 +11,10 @@ macro_rules! wrong {
     };
 }
 
+/// Every entry point.
+const EVERY: &[&str] =
+    &["read_book", "lot_costs", "pair_cost", "read_amounts", "check_order", "run_order", "find_order", "find_and_run", "find_and_run_idle"];
+
 wrong! {
     &[] =>
     FailureByCallThenLot
@@ -71,5 +75,40 @@ wrong! {
     IdleAmountWithinLimit
     IdleUnitsPlaced
     FlowWithIdleCall
-    FullWhenIdleTakesTheRest;
+    FullWhenIdleTakesTheRest
+    BaseSubtractedForIdleUnits;
+
+    EVERY =>
+    BookOfVersion0
+    BookOfVersion1Alone
+    BookOfVersion3
+    SignedInVersion1
+    UnsignedInVersion2
+    SignAndSize
+    LeastCostExcluded
+    OneBelowTheLeastCost
+    CostToTwoMillion;
+
+    &["check_order", "run_order"] =>
+    OrderOfVersion2;
+
+    &["read_amounts", "run_order", "find_and_run", "find_and_run_idle"] =>
+    AmountsOfVersion2;
+
+    &["check_order", "run_order", "find_order", "find_and_run", "find_and_run_idle"] =>
+    SumsUnsigned;
+
+    &["run_order", "find_and_run", "find_and_run_idle"] =>
+    CostIn32Bits
+    BaseSubtractedOnce;
+
+    &["pair_cost"] =>
+    PairCostIn32Bits;
+
+    &["find_order"] =>
+    OrderOfTheBooksVersion;
+
+    &["place"] =>
+    MinusNotPrinted
+    MinusBeforeZero;
 }
