@@ -18,7 +18,7 @@ use Rattle.transport.proofs.Laws.Sets.{Agree}
 use Rattle.transport.proofs.Finder.Free.{Marks, next-marked, next-unmarked}
 use Rattle.transport.proofs.Finder.Ranks.{Renames, rank-apart, eqb-ranks, Ranked}
 use Rattle.transport.proofs.Finder.Corners.{Ends, LotEnds, CallEnds, ends-by-rank, free-is-corners}
-use Rattle.specification.specs.Costs.{costLimit}
+use Rattle.specification.specs.Costs.{costTop}
 use Rattle.specification.specs.Book.{bit}
 use Rattle.book.specs.Table.{entry}
 use Rattle.words.specs.Words.{LowestIn, HighestIn}
@@ -77,7 +77,7 @@ module _ {n m : ℕ} {lots lotRanks calls callRanks table turned : List ℕ} (k 
     calls-ranked = k .calls-ranked;
   }
 
-  cap : (p q : ℕ) → entry table p q ≤ suc costLimit
+  cap : (p q : ℕ) → entry table p q ≤ suc costTop
   cap p q = k .capped (32 * p + q)
 
   ranked : Ranked P rowOf columnOf
@@ -96,7 +96,7 @@ module _ {n m : ℕ} {lots lotRanks calls callRanks table turned : List ℕ} (k 
   }
 
   fits-by : (i j a b : ℕ) → a < n → b < m → fits P i j a b ≡ fitsBy table (rowOf i) (columnOf j) (rowOf a) (columnOf b)
-  fits-by i j a b ha hb = rw (lt-ltb a n ha, lt-ltb b m hb) (slacks-compared (suc costLimit) _ _ _ _
+  fits-by i j a b ha hb = rw (lt-ltb a n ha, lt-ltb b m hb) (slacks-compared (suc costTop) _ _ _ _
       (cap (rowOf i) (columnOf j)) (cap (rowOf a) (columnOf b)) (cap (rowOf i) (columnOf b)) (cap (rowOf a) (columnOf j)))
 
   fits-at : (i j p q : ℕ) → p < n → q < m → fits P i j (getD lots p 0) (getD calls q 0) ≡ fitsBy table (rowOf i) (columnOf j) p q

@@ -1,6 +1,6 @@
 -- Laws of filling the table of slacks from a book's rows. The costs of a lot stand behind its word, one for each set bit, so the byte of a
 -- cost grows by four with each slack that is entered; clear bits are passed over, since the table is 0 there (`Reached`). With all lots
--- entered the table states the book's problem (`filled-same`, `filled-slacks`).
+-- entered the table states the book's problem (`filled-same`, `filled-slacks`), and with an idle call the enlarged one (`filled-idle`).
 use mathlib.Core.Path.{_≡_, refl, sym, _∙_, ap, subst⁻¹}
 use mathlib.Core.Logic.{by-cases}
 use mathlib.Core.Bool.{Bool, true, false, not, _&&_}
@@ -16,22 +16,34 @@ use lib.Pow.{pow-mono, pow-pos}
 use lib.ListN.{length, set, replicate, length-set, getD-replicate, length-replicate}
 use lib.Seq.{getD-set-same, getD-set-other}
 use Rattle.transport.specs.Problem.{Eligible}
-use Rattle.transport.proofs.Laws.Tests.{and-says, counted-of, counted-le}
+use Rattle.transport.specs.Idle.{withIdle}
+use Rattle.transport.proofs.Laws.Tests.{T-true, and-says, counted-of, counted-le}
 use Rattle.transport.proofs.Finder.Same.{Same}
+use Rattle.transport.proofs.Finder.Idle.{idle-same}
 use Rattle.specification.specs.Bytes.{u32At}
-use Rattle.specification.specs.Costs.{costLimit}
-use Rattle.specification.specs.Book.{bit, rowWord, rowSize, rowCost, bookLots, bookCalls, rowAt, rowStart, problemOf}
+use Rattle.specification.specs.Costs.{costLimit, costTop, costBase, liftedCost}
+use Rattle.specification.specs.Book.{bit, rowWord, rowSize, rowCost, bookVersion, bookLots, bookCalls, rowAt, rowStart, problemOf}
+use Rattle.specification.specs.Idle.{enlarged}
+use Rattle.specification.proofs.Costs.{base-within, cost-lifted, raised-is}
 use Rattle.specification.proofs.Numbers.{u32-drop}
 use Rattle.specification.proofs.Rows.{RowRead}
 use Rattle.specification.proofs.Books.{BookRead, book-length}
 use Rattle.specification.proofs.Starts.{row-is, row-inside, start-next}
 use Rattle.book.specs.Pairs.{onesBelow}
-use Rattle.book.specs.Table.{entry, SetFrom}
+use Rattle.book.specs.Table.{entry, raisedAt, SetFrom}
 use Rattle.book.proofs.Bits.{ones-below-none, ones-below-set, ones-below-clear, ones-below-all, bit-below, bit-past, bit-first, bit-after}
 use Rattle.book.proofs.Readable.{Read, readable-is}
 use Rattle.slacks.specs.Slacks.{remains, bySlacks, Slacks}
 use Rattle.finder.specs.Filling.{slackIn, Entered, AtLot}
 use Rattle.slacks.proofs.BySlacks.{capped-zeros, capped-set}
+
+-- the cost of a set bit is in its version's range, so with the limit added it is at most the top
+raised-low : {row : List ℕ} {version calls : ℕ} → RowRead row version calls → (j : ℕ) → bit (rowWord row) j ≡ true
+    → liftedCost costLimit (rowCost row j) ≤ costTop
+raised-low {row} {version} {calls} r j e =
+    let held : ℕ = rowCost row j in
+    let inside = r .costs-within j (bit-below (rowWord row) j calls e (r .word-below)) (rw e tt) in
+    omega (arith, raised-is version held inside, cost-lifted version held inside .within, base-within version)
 
 -- ---- the table, entry by entry
 module _ (book : List ℕ) where
@@ -58,8 +70,8 @@ module _ (book : List ℕ) where
     long = length-set slacks (32 * j + i) v ∙ E .long;
   }
     where
-      slack-le : slackIn book i j ≤ suc costLimit
-      slack-le = omega (arith, counted-le (bit (rowWord (rowAt book i)) j) (suc costLimit - rowCost (rowAt book i) j))
+      slack-le : slackIn book i j ≤ suc costTop
+      slack-le = omega (arith, counted-le (bit (rowWord (rowAt book i)) j) (suc costTop - liftedCost costLimit (rowCost (rowAt book i) j)))
 
   -- pairs of one lot without slack are passed over
   entered-past : (i j l : ℕ) (slacks : List ℕ) → Entered book (32 * i + j) slacks → i < 32 → j ≤ l → l ≤ 32
@@ -88,7 +100,7 @@ module _ {book : List ℕ} {i at : ℕ} {before : List ℕ} (lot : AtLot book i 
   read : BookRead book (readable-is book (lot .is-readable) .0)
   read = readable-is book (lot .is-readable) .1
 
-  row : RowRead (rowAt book i) (bookCalls book)
+  row : RowRead (rowAt book i) (bookVersion book) (bookCalls book)
   row = read .row i lot-in
 
   pub lot-few : i < 32
@@ -121,10 +133,10 @@ module _ {book : List ℕ} {i at : ℕ} {before : List ℕ} (lot : AtLot book i 
         rw e (sym (u32-drop (rowStart book i) book (4 + 4 * onesBelow word j))
         ∙ ap (λ (s : List ℕ). u32At s (4 + 4 * onesBelow word j)) (sym (row-is book i)))
 
-    pub cost-low : u32At book next ≤ 1000000
-    cost-low = rw cost-is (row .costs-within j (bit-below word j (bookCalls book) set-here (row .word-below)) (rw set-here tt))
+    pub cost-low : raisedAt book next ≤ costTop
+    cost-low = rw cost-is (raised-low row j set-here)
 
-    pub reached-one : j < 32 → Reached book i at (j + 1) (next + 4) (set slacks (32 * j + i) (suc costLimit - u32At book next))
+    pub reached-one : j < 32 → Reached book i at (j + 1) (next + 4) (set slacks (32 * j + i) (suc costTop - raisedAt book next))
     reached-one hj = record {
       bounded = omega arith;
       next-is = omega (arith, r .next-is, ones-below-set word j set-here);
@@ -182,7 +194,7 @@ module _ {book : List ℕ} {n m : ℕ} (r : Read book n m) (slacks : List ℕ) (
   slack-at : (i j : ℕ) → i < n → j < 32 → entry slacks j i ≡ slackIn book i j
   slack-at i j hi hj = all .passed i j hj (omega arith)
 
-  row-known : (i : ℕ) → i < n → RowRead (rowAt book i) (bookCalls book)
+  row-known : (i : ℕ) → i < n → RowRead (rowAt book i) (bookVersion book) (bookCalls book)
   row-known i hi = r .known .row i (omega (arith, r .lots-is))
 
   -- a pair has slack exactly where its bit is set
@@ -192,13 +204,19 @@ module _ {book : List ℕ} {n m : ℕ} (r : Read book n m) (slacks : List ℕ) (
       go : (b : Bool) → bit (rowWord (rowAt book i)) j ≡ b → bit (rowWord (rowAt book i)) j ≡ not (eqb (slackIn book i j) 0)
       go false e = rw e
       go true e =
-          let row = row-known i hi in
-          let low = row .costs-within j (bit-below _ j _ e (row .word-below)) (rw e tt) in
-          rw e (rw (ne-eqb (suc costLimit - rowCost (rowAt book i) j) 0 (λ q. omega arith)))
+          let low = raised-low (row-known i hi) j e in
+          rw e (rw (ne-eqb (suc costTop - liftedCost costLimit (rowCost (rowAt book i) j)) 0 (λ q. omega arith)))
 
   pub filled-same : Same (problemOf book) (bySlacks slacks n m)
   unfolding problemOf
-  filled-same = record { lots = sym (r .lots-is); calls = sym (r .calls-is); admits = admits; cost = cost }
+  filled-same = record {
+    lots = sym (r .lots-is);
+    calls = sym (r .calls-is);
+    admits = admits;
+    more = costLimit - costBase (bookVersion book);
+    more′ = 0;
+    cost = cost;
+  }
     where
       admits : (i j : ℕ) → i < bookLots book → j < bookCalls book → problemOf book .admits i j ≡ bySlacks slacks n m .admits i j
       admits i j hi hj =
@@ -207,7 +225,8 @@ module _ {book : List ℕ} {n m : ℕ} (r : Read book n m) (slacks : List ℕ) (
           rw (lt-ltb i (bookLots book) hi, lt-ltb j (bookCalls book) hj, lt-ltb i n ni, lt-ltb j m mj)
           (set-remains i j ni (omega (arith, few-calls)))
 
-      cost : (i j : ℕ) → Eligible (problemOf book) i j → problemOf book .cost i j ≡ suc costLimit - entry slacks j i
+      cost : (i j : ℕ) → Eligible (problemOf book) i j
+          → problemOf book .cost i j + (costLimit - costBase (bookVersion book)) ≡ suc costTop - entry slacks j i + 0
       cost i j (hi, hj, t) =
           let ni : i < n = omega (arith, r .lots-is) in
           let b = bit (rowWord (rowAt book i)) j in
@@ -216,9 +235,15 @@ module _ {book : List ℕ} {n m : ℕ} (r : Read book n m) (slacks : List ℕ) (
           omega (
             arith,
             slack-at i j ni (omega (arith, r .known .calls-within)),
-            counted-of b (suc costLimit - rowCost (rowAt book i) j) here,
-            row-known i ni .costs-within j hj here,
+            counted-of b (suc costTop - liftedCost costLimit (rowCost (rowAt book i) j)) here,
+            raised-low (row-known i ni) j (T-true b here),
+            raised-is (bookVersion book) (rowCost (rowAt book i) j) (row-known i ni .costs-within j hj here),
           )
+
+  -- the idle call costs 0, and so in the one problem the base, in the other the limit
+  pub filled-idle : Same (enlarged book) (withIdle costLimit (bySlacks slacks n m))
+  unfolding filled-same
+  filled-idle = idle-same filled-same (costBase (bookVersion book)) costLimit (omega (arith, base-within (bookVersion book)))
 
   pub filled-slacks : Slacks slacks n m
   filled-slacks = record {

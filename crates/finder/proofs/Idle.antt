@@ -1,6 +1,6 @@
--- Laws of the idle call. A table of slacks with the highest slack for each lot at call m states the enlarged problem; and of a book with
+-- Laws of the idle call. A table of slacks with the slack of a cost of 0 for each lot at call m states the enlarged problem; and of a book with
 -- room for one call more, no more than 1,024 pairs are searched.
-use mathlib.Core.Path.{_≡_, refl, sym, _∙_}
+use mathlib.Core.Path.{_≡_, refl, sym, _∙_, ap}
 use mathlib.Core.Logic.{⊎-elim}
 use mathlib.Core.Bool.{Bool, true, false}
 use mathlib.Core.List.{List}
@@ -17,6 +17,7 @@ use Rattle.transport.proofs.Laws.Sets.{count-le}
 use Rattle.transport.proofs.Finder.Same.{Same}
 use Rattle.specification.specs.Costs.{costLimit}
 use Rattle.specification.specs.Book.{problemOf}
+use Rattle.specification.specs.Idle.{enlarged}
 use Rattle.specification.proofs.Books.{problem-within, size-within}
 use Rattle.book.specs.Table.{entry}
 use Rattle.book.proofs.Readable.{Read}
@@ -25,7 +26,7 @@ use Rattle.slacks.proofs.BySlacks.{admits-is}
 use Rattle.finder.specs.Searched.{searched}
 use Rattle.finder.specs.Table.{Filled}
 
--- the row of call m holds the highest slack for each lot
+-- the row of call m holds the slack of a cost of 0 for each lot
 module _ {before after : List ℕ} {n m : ℕ} (s : Slacks before n m) (f : Filled m (λ k. suc costLimit) n before after) where
   other-calls : (i j : ℕ) → i < n → (j ≡ m → ⊥) → entry after j i ≡ entry before j i
   other-calls i j hi ne = f .others j i ne (omega (arith, s .lots-few))
@@ -39,30 +40,37 @@ module _ {before after : List ℕ} {n m : ℕ} (s : Slacks before n m) (f : Fill
     long = f .long ∙ s .long;
   }
 
-  pub idle-states : Same (withIdle (bySlacks before n m)) (bySlacks after n (m + 1))
-  idle-states = record { lots = refl; calls = sym (add-one m); admits = admits; cost = cost }
+  pub idle-states : Same (withIdle costLimit (bySlacks before n m)) (bySlacks after n (m + 1))
+  idle-states = record {
+    lots = refl;
+    calls = sym (add-one m);
+    admits = admits;
+    more = 0;
+    more′ = 0;
+    cost = λ i j e. ap (λ (x : ℕ). x + 0) (cost i j e);
+  }
     where
-      admits : (i j : ℕ) → i < n → j < suc m → withIdle (bySlacks before n m) .admits i j ≡ bySlacks after n (m + 1) .admits i j
+      admits : (i j : ℕ) → i < n → j < suc m → withIdle costLimit (bySlacks before n m) .admits i j ≡ bySlacks after n (m + 1) .admits i j
       admits i j hi hj = sym (admits-is after n (m + 1) i j hi (omega arith) ∙ ⊎-elim
           (λ (e : j ≡ m). rw (e, eqb-true m, f .passed i hi) refl)
           (λ (l : j < m). rw (eqb-false j m (λ e. omega arith), other-calls i j hi (λ e. omega arith)) (sym (admits-is before n m i j hi l)))
           (below-suc hj))
 
-      cost : (i j : ℕ) → Eligible (withIdle (bySlacks before n m)) i j
-          → withIdle (bySlacks before n m) .cost i j ≡ bySlacks after n (m + 1) .cost i j
-      cost i j (hi, hj, t) = put-is (bySlacks before n m .cost i) m 0 j _
+      cost : (i j : ℕ) → Eligible (withIdle costLimit (bySlacks before n m)) i j
+          → withIdle costLimit (bySlacks before n m) .cost i j ≡ bySlacks after n (m + 1) .cost i j
+      cost i j (hi, hj, t) = put-is (bySlacks before n m .cost i) m costLimit j _
           (λ e. rw (e, f .passed i hi) refl)
           (λ ne. rw (other-calls i j hi ne) refl)
 
 -- the pairs that are searched
 pub searched-within : {book : List ℕ} {n m : ℕ} → Read book n m → (idle : Bool) → (idle ≡ true → m < 32)
-    → size (searched idle (problemOf book)) ≤ 1024
+    → size (searched idle book) ≤ 1024
 unfolding problemOf
 searched-within r false room = size-within (r .known)
 searched-within {book} r true room =
     let few : suc (problemOf book .calls) ≤ 32 = omega (arith, room refl, r .calls-is) in
     omega (
       arith,
-      count-le (withIdle (problemOf book)) (withIdle (problemOf book) .admits),
+      count-le (enlarged book) (enlarged book .admits),
       mul-le-mul (problem-within (r .known) .1) few,
     )

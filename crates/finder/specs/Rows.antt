@@ -4,18 +4,18 @@ use mathlib.Core.Bool.{true, false}
 use mathlib.Core.List.{List}
 use Prim.Native.Nat.{ℕ, suc, _+_, _*_, _-_, _≤_, _<_, min}
 use lib.ListN.{length, getD}
-use Rattle.specification.specs.Costs.{costLimit}
+use Rattle.specification.specs.Costs.{costTop}
 use Rattle.specification.specs.Book.{bit}
 use Rattle.book.specs.Table.{entry}
 use Rattle.finder.specs.Words.{isLeft}
 
 -- no gap is above it
 abbrev pub gapTop : ℕ
-gapTop = 2 * suc costLimit
+gapTop = 2 * suc costTop
 
 -- the gap of lot i over lot k at call l: the difference of their costs, raised so that it is no negative number
 abbrev pub gapAt : List ℕ → ℕ → ℕ → ℕ → ℕ
-gapAt slacks i k l = suc costLimit - entry slacks l i + entry slacks l k
+gapAt slacks i k l = suc costTop - entry slacks l i + entry slacks l k
 
 -- a row of 32 numbers that gaps can be
 pub record LowRow (row : List ℕ) : Type 0 where

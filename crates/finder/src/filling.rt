@@ -7,21 +7,23 @@ use slacks::SIDE;
 use slacks::SLACK_OF_ZERO;
 use specification::Lot;
 ghost use mathlib.Core.Path.{_≡_};
-ghost use Prim.Native.Nat.{_+_, _-_, _^_, _≤_, _<_};
+ghost use Prim.Native.Nat.{suc, _+_, _-_, _^_, _≤_, _<_};
 ghost use lib.ListN.{replicate};
 ghost use Rattle.transport.specs.Finder.{size};
 ghost use Rattle.transport.specs.Idle.{withIdle};
 ghost use Rattle.transport.proofs.Finder.Same.{Same};
 ghost use Rattle.specification.specs.Reply.{gives};
 ghost use Rattle.specification.specs.Bytes.{u32At};
+ghost use Rattle.specification.specs.Costs.{costLimit, costTop, liftedCost};
 ghost use Rattle.specification.specs.Book.{bookLots, readBook, problemOf};
+ghost use Rattle.specification.specs.Idle.{enlarged};
 ghost use Rattle.slacks.specs.Slacks.{bySlacks, Slacks};
 ghost use Rattle.finder.specs.Filling.{AtLot};
 
 // The slack of a cost, of the 32 bits that a readable book of either version holds.
 fn slack_of(held: u32) -> u32
-    requires { ⌜ liftedCost costLimit held ≤ costLimit + costLimit ⌝ }
-    ensures { λ r. ⌜ r ≡ suc (costLimit + costLimit) - liftedCost costLimit held ⌝ }
+    requires { ⌜ liftedCost costLimit held ≤ costTop ⌝ }
+    ensures { λ r. ⌜ r ≡ suc costTop - liftedCost costLimit held ⌝ }
 {
     std::num::wrapping_sub_u32(SLACK_OF_ZERO, held)
 }
@@ -88,6 +90,7 @@ fn enter_lot(
 pub fn fill_slacks(book: &[u8], n: usize, m: usize, slacks: &mut [u32; PAIRS]) -> usize
     requires { ⌜ (readBook (now book) ≡ gives (record { lots = n; calls = m })) × (now slacks ≡ replicate 1024 0) ⌝ }
     ensures { λ r. ⌜ Same (problemOf (now (book .entry))) (bySlacks (now (slacks .exit)) n m) ⌝ }
+    ensures { λ r. ⌜ Same (enlarged (now (book .entry))) (withIdle costLimit (bySlacks (now (slacks .exit)) n m)) ⌝ }
     ensures { λ r. ⌜ Slacks (now (slacks .exit)) n m × (r ≡ size (bySlacks (now (slacks .exit)) n m)) ⌝ }
 {
     let all = all_calls(m);
@@ -101,7 +104,7 @@ pub fn fill_slacks(book: &[u8], n: usize, m: usize, slacks: &mut [u32; PAIRS]) -
 // Enters the slacks of the idle call, the last: every lot has it at cost 0.
 pub fn add_idle(slacks: &mut [u32; PAIRS], n: usize, m: usize)
     requires { ⌜ Slacks (now slacks) n m × (m < 32) ⌝ }
-    ensures { λ r. ⌜ Same (withIdle (bySlacks (now (slacks .entry)) n m)) (bySlacks (now (slacks .exit)) n (m + 1)) ⌝ }
+    ensures { λ r. ⌜ Same (withIdle costLimit (bySlacks (now (slacks .entry)) n m)) (bySlacks (now (slacks .exit)) n (m + 1)) ⌝ }
     ensures { λ r. ⌜ Slacks (now (slacks .exit)) n (m + 1) ⌝ }
 {
     for i in 0..n {

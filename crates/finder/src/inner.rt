@@ -10,7 +10,7 @@ ghost use Prim.Native.Nat.{_+_, _*_, _≤_, _<_};
 ghost use lib.ListN.{length};
 ghost use Rattle.transport.specs.Finder.{size, find};
 ghost use Rattle.specification.specs.Reply.{gives};
-ghost use Rattle.specification.specs.Book.{readBook, problemOf};
+ghost use Rattle.specification.specs.Book.{readBook};
 ghost use Rattle.finder.specs.Searched.{searched};
 ghost use Rattle.finder.specs.Writing.{Orders};
 
@@ -19,8 +19,8 @@ ghost use Rattle.finder.specs.Writing.{Orders};
 pub fn find_by(book: &[u8], n: usize, m: usize, idle: bool, buffer: &mut [u8]) -> Search
     requires { ⌜ readBook (now book) ≡ gives (record { lots = n; calls = m }) ⌝ }
     requires { ⌜ (idle ≡ true → m < 32) ⌝ }
-    requires { ⌜ 7 + 2 * size (searched idle (problemOf (now book))) ≤ length (now buffer) ⌝ }
-    ensures { λ r. ⌜ Orders (find (searched idle (problemOf (now (book .entry))))) r (now (buffer .entry)) (now (buffer .exit)) ⌝ }
+    requires { ⌜ 7 + 2 * size (searched idle (now book)) ≤ length (now buffer) ⌝ }
+    ensures { λ r. ⌜ Orders (find (searched idle (now (book .entry)))) r (now (buffer .entry)) (now (buffer .exit)) ⌝ }
 {
     // By call, a row of `SIDE` lots: the slack of each pair.
     let mut slacks: [u32; PAIRS] = [0; PAIRS];

@@ -1,4 +1,4 @@
-// Least gaps. The gap of a lot over another at a call is the difference of their costs there, raised by one more than the limit so that it is
+// Least gaps. The gap of a lot over another at a call is the difference of their costs there, raised by the highest slack so that it is
 // no negative number. The least gaps of a lot, over each of `SIDE`, are worked out when they are asked for, and stand while pairs are taken: they
 // are then no more than the least of the gaps that are left.
 use slacks::PAIRS;

@@ -17,7 +17,7 @@ use Rattle.transport.proofs.Laws.Tests.{T-true, below-suc, counted-le, counted-
 use Rattle.transport.proofs.Laws.Sums.{sum-le}
 use Rattle.transport.proofs.Finder.Ranks.{Renames, monge-of-neighbours}
 use Rattle.transport.proofs.Finder.Same.{Same}
-use Rattle.specification.specs.Costs.{costLimit}
+use Rattle.specification.specs.Costs.{costTop}
 use Rattle.book.specs.Table.{entry}
 use Rattle.slacks.specs.Slacks.{remains, bySlacks, Capped, Slacks}
 use Rattle.ranks.specs.Ranked.{byRanks, MongeBy, Ranking}
@@ -78,7 +78,7 @@ module _ {slacks lots calls : List ℕ} {n q : ℕ} where
   laying-none laid = record { before = laid; at = λ k h. absurd (omega arith); turned-at = λ k h. absurd (omega arith) }
 
   pub laying-more : {p v : ℕ} {table turned : List ℕ} → Laying slacks lots calls n q p table turned → n ≤ 32 → q < 32 → p < n
-      → v ≡ slackBy slacks lots calls p q → v ≤ suc costLimit
+      → v ≡ slackBy slacks lots calls p q → v ≤ suc costTop
       → Laying slacks lots calls n q (p + 1) (set table (32 * p + q) v) (set turned (32 * q + p) v)
   laying-more {p} {v} {table} {turned} laying few hq hp e le =
       let b = laying .before in
@@ -124,7 +124,7 @@ monge-of-next table n m capped next = record {
 }
   where
     cost : ℕ → ℕ → ℕ
-    cost p q = suc costLimit - entry table p q
+    cost p q = suc costTop - entry table p q
 
     near : (p q : ℕ) → p + 1 < n → q + 1 < m → cost p q + cost (p + 1) (q + 1) ≤ cost p (q + 1) + cost (p + 1) q
     near p q h g = omega (
@@ -169,7 +169,9 @@ ranking-of {slacks} {lots} {lotRanks} {calls} {callRanks} {table} {turned} {n} {
     calls = refl;
     admits = λ i j hi hj. rw (lt-ltb i n hi, lt-ltb j m hj) (T-true (remains slacks i j)
         (remains-of slacks i j (λ e. omega (arith, full .has-slack i j hi hj))));
-    cost = λ i j e. ap (λ (x : ℕ). suc costLimit - x) (sym (
+    more = 0;
+    more′ = 0;
+    cost = λ i j e. ap (λ (x : ℕ). suc costTop - x + 0) (sym (
         laid .at (getD lotRanks i 0) (getD callRanks j 0) (byLot .rank-below i (e .0)) (byCall .rank-below j (e .1))
         ∙ ap₂ (entry slacks) (byCall .at-rank j (e .1)) (byLot .at-rank i (e .0))));
   },

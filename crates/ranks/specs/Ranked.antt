@@ -8,7 +8,7 @@ use lib.Dec.{leb, ltb}
 use lib.ListN.{getD}
 use Rattle.transport.specs.Problem.{Problem}
 use Rattle.transport.proofs.Finder.Ranks.{Renames}
-use Rattle.specification.specs.Costs.{costLimit}
+use Rattle.specification.specs.Costs.{costTop}
 use Rattle.book.specs.Table.{entry}
 use Rattle.slacks.specs.Slacks.{Capped}
 
@@ -26,7 +26,7 @@ byRanks table lotRanks callRanks n m = record {
   lots = n;
   calls = m;
   admits = λ i j. ltb i n && ltb j m;
-  cost = λ i j. suc costLimit - entry table (getD lotRanks i 0) (getD callRanks j 0);
+  cost = λ i j. suc costTop - entry table (getD lotRanks i 0) (getD callRanks j 0);
 }
 
 -- each lot and call has its rank, and the table and the turned one are Monge and say the same

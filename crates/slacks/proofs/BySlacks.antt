@@ -10,7 +10,7 @@ use lib.Dec.{T, eqb, T-not, not-T, eqb→eq}
 use lib.ListN.{length, getD, set, replicate, getD-replicate, length-replicate, List·getD-eq-default}
 use lib.Seq.{getD-set-same, getD-set-other}
 use Rattle.transport.proofs.Laws.Tests.{positive}
-use Rattle.specification.specs.Costs.{costLimit}
+use Rattle.specification.specs.Costs.{costTop}
 use Rattle.book.specs.Table.{entry}
 use Rattle.slacks.specs.Slacks.{remains, bySlacks, Capped}
 
@@ -28,9 +28,9 @@ capped-zeros x = by-cases (decLt x 1024)
     (λ h. omega (arith, getD-replicate {A = ℕ} 1024 x 0 0 h))
     (λ h. omega (arith, List·getD-eq-default {A = ℕ} (replicate 1024 0) 0 {n = x} (omega (arith, length-replicate {A = ℕ} 1024 0))))
 
-pub capped-set : (t : List ℕ) (x v : ℕ) → Capped t → v ≤ suc costLimit → x < length t → Capped (set t x v)
+pub capped-set : (t : List ℕ) (x v : ℕ) → Capped t → v ≤ suc costTop → x < length t → Capped (set t x v)
 capped-set t x v h le lt y = by-cases (ℕ-discrete y x)
-    (λ e. subst⁻¹ (λ (z : ℕ). getD (set t x v) z 0 ≤ suc costLimit) e (omega (arith, getD-set-same t x v 0 lt)))
+    (λ e. subst⁻¹ (λ (z : ℕ). getD (set t x v) z 0 ≤ suc costTop) e (omega (arith, getD-set-same t x v 0 lt)))
     (λ d. omega (arith, h y, getD-set-other t x y v 0 d))
 
 module _ (slacks : List ℕ) (n m : ℕ) where

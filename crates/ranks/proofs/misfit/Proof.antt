@@ -1,4 +1,4 @@
--- `ranks::misfit` meets its contract: the sums fit, since no slack is above one more than the limit.
+-- `ranks::misfit` meets its contract: the sums fit, since the slacks are capped.
 use Prim.Native.Nat.{_+_, _*_}
 use native.Mathlib.Omega.{arith}
 use borrow.Author.Needs.{needs}

@@ -1,4 +1,4 @@
--- `finder::filling::add_idle` meets its contract. The invariant: the lots passed have the highest slack at call m.
+-- `finder::filling::add_idle` meets its contract. The invariant: the lots passed have the slack of a cost of 0 at call m.
 use mathlib.Core.Path.{_≡_, refl, _∙_}
 use Prim.Native.Nat.{suc, _+_, _*_, _-_, _≤_, _<_}
 use native.Mathlib.Omega.{arith}

@@ -42,16 +42,16 @@ module _ (c : tie.In-loop Inv-loop μ-loop) where
 
 loop-again : tie.Need-loop-again Inv-loop μ-loop
 loop-again c =
-    let t = c .before in
+    let t = c .before .before in
     let p = start t .pre in
     let next : start t .args .at + 4 + 4 * (t .before .loop .j + 1) ≡ start t .args .at + 4 + 4 * t .before .loop .j + 4 = omega arith in
-    (omega arith, rw (next, c .cost-at .ensures) (reached-one (p .0) (p .1) (t .before .loop .inv .1) (set-here t) (omega (arith, p .2))))
+    (omega arith, rw (next, c .slack-of .ensures, c .before .cost-at .ensures) (reached-one (p .0) (p .1) (t .before .loop .inv .1) (set-here t) (omega (arith, p .2))))
 
-sub-slacks : tie.Need-sub-slacks Inv-loop μ-loop
-sub-slacks c =
+slack-of-requires : tie.Need-slack-of-requires Inv-loop μ-loop
+slack-of-requires c κs =
     let t = c .before in
     let p = start t .pre in
-    omega (arith, c .cost-at .ensures, cost-low (p .0) (p .1) (t .before .loop .inv .1) (set-here t))
+    rw (c .cost-at .ensures) (cost-low (p .0) (p .1) (t .before .loop .inv .1) (set-here t))
 
 returns : tie.Need-returns Inv-loop μ-loop
 returns c =
@@ -78,11 +78,11 @@ enter-all-spec =
     (λ c. omega (arith, fine c, short c))
     (λ c. omega (arith, fine c, short c))
     (λ c κs. fine c)
-    sub-slacks
-    (λ c. omega (arith, start (c .before) .pre .2))
-    (λ c. omega (arith, start (c .before) .pre .2, few (c .before)))
-    (λ c. omega (arith, start (c .before) .pre .2, few (c .before)))
-    (λ c. omega (arith, start (c .before) .pre .2, few (c .before)))
+    slack-of-requires
+    (λ c. omega (arith, start (c .before .before) .pre .2))
+    (λ c. omega (arith, start (c .before .before) .pre .2, few (c .before .before)))
+    (λ c. omega (arith, start (c .before .before) .pre .2, few (c .before .before)))
+    (λ c. omega (arith, start (c .before .before) .pre .2, few (c .before .before)))
     (λ c. omega arith)
     (λ c. omega arith)
     loop-again

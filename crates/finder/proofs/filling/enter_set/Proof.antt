@@ -40,21 +40,21 @@ module _ (c : tie.In-loop Inv-loop μ-loop) where
   short : length (start .args .book .now) ≤ 4231
   short = book-short (start .pre .0) (start .pre .1)
 
-sub-slacks : tie.Need-sub-slacks Inv-loop μ-loop
-sub-slacks c =
+slack-of-requires : tie.Need-slack-of-requires Inv-loop μ-loop
+slack-of-requires c κs =
     let t = c .before in
     let p = start t .pre in
     let inv = t .before .loop .inv in
-    omega (arith, c .cost-at .ensures, cost-low (p .0) (p .1) (inv .1) (inv .0 (t .loop-test .taken)))
+    rw (c .cost-at .ensures) (cost-low (p .0) (p .1) (inv .1) (inv .0 (t .loop-test .taken)))
 
 loop-again : tie.Need-loop-again Inv-loop μ-loop
 loop-again c =
-    let t = c .before .before in
+    let t = c .before .before .before in
     let p = start t .pre in
     let inv = t .before .loop .inv in
     let after = rw (p .2 ∙ word-is (p .0) (p .1)) at (c .set-from2 .ensures) in
-    let here = rw (← c .before .cost-at .ensures) at (reached-one (p .0) (p .1) (inv .1) (inv .0 (t .loop-test .taken)) (t .loop-test .taken)) in
-    (after .is-set, reached-to (p .0) (p .1) here after)
+    let here = reached-one (p .0) (p .1) (inv .1) (inv .0 (t .loop-test .taken)) (t .loop-test .taken) in
+    (after .is-set, rw (c .before .slack-of .ensures, c .before .before .cost-at .ensures) (reached-to (p .0) (p .1) here after))
 
 returns : tie.Need-returns Inv-loop μ-loop
 returns c =
@@ -73,12 +73,12 @@ enter-set-spec =
     (λ c κs. tt)
     loop-holds
     (λ c κs. fine c)
-    sub-slacks
+    slack-of-requires
     (λ c. omega arith)
-    (λ c. omega (arith, few (c .before)))
-    (λ c. omega (arith, few (c .before)))
-    (λ c. omega (arith, few (c .before)))
-    (λ c. omega (arith, fine (c .before), short (c .before)))
+    (λ c. omega (arith, few (c .before .before)))
+    (λ c. omega (arith, few (c .before .before)))
+    (λ c. omega (arith, few (c .before .before)))
+    (λ c. omega (arith, fine (c .before .before), short (c .before .before)))
     (λ c. omega arith)
     (λ c κs. tt)
     (λ c. omega (arith, c .set-from2 .ensures .not-below (omega arith)))

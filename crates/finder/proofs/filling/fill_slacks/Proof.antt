@@ -1,5 +1,5 @@
 -- `finder::filling::fill_slacks` meets its contract. The invariant: the lots below i are entered, and `at` is where the row of lot i starts. All lots
--- entered state the book's problem (`filled-same`).
+-- entered state the book's problem (`filled-same`, `filled-idle`).
 use mathlib.Core.Path.{_≡_, refl, sym, _∙_}
 use Prim.Native.Nat.{_-_, _≤_}
 use native.Mathlib.Omega.{arith}
@@ -7,7 +7,7 @@ use Rattle.transport.proofs.Finder.Same.{size-of-same}
 use Rattle.specification.specs.Book.{rowStart}
 use Rattle.book.proofs.Readable.{Read, counts-are}
 use Rattle.finder.specs.Filling.{AtLot}
-use Rattle.finder.proofs.Entering.{entered-none, filled-same, filled-slacks}
+use Rattle.finder.proofs.Entering.{entered-none, filled-same, filled-idle, filled-slacks}
 use Rattle.finder.proofs.filling.fill_slacks.Statement.{statement}
 use Rattle.finder.proofs.filling.fill_slacks.Tie as tie
 
@@ -51,7 +51,7 @@ returns c =
     let e : l .loop .i ≡ s .args .n = omega (arith, c .before .loop-test .left) in
     let all = rw e at (l .loop .inv .1 .entered) in
     let same = filled-same (read s) _ all in
-    (same, (filled-slacks (read s) _ all, c .pair-count .ensures ∙ size-of-same same))
+    (same, (filled-idle (read s) _ all, (filled-slacks (read s) _ all, c .pair-count .ensures ∙ size-of-same same)))
 
 pub fill-slacks-spec : {M : Type 1} → statement M
 fill-slacks-spec =

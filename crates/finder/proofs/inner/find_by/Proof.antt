@@ -2,13 +2,14 @@
 use borrow.Author.Needs.{needs}
 use mathlib.Core.Path.{_≡_, sym, subst⁻¹}
 use mathlib.Core.Bool.{Bool}
-use Prim.Native.Nat.{_+_, _≤_}
+use mathlib.Core.List.{List}
+use Prim.Native.Nat.{ℕ, _+_, _≤_}
 use native.Mathlib.Omega.{arith}
 use Rattle.transport.specs.Problem.{Problem}
 use Rattle.transport.specs.Finder.{size}
 use Rattle.transport.proofs.Finder.Same.{Same, same-trans, size-of-same, find-of-same}
-use Rattle.transport.proofs.Finder.Idle.{idle-same, idle-size}
-use Rattle.specification.specs.Book.{problemOf}
+use Rattle.transport.proofs.Finder.Idle.{idle-size}
+use Rattle.specification.specs.Costs.{costLimit}
 use Rattle.book.proofs.Readable.{counts-are}
 use Rattle.slacks.specs.Slacks.{bySlacks}
 use Rattle.finder.specs.Searched.{searched}
@@ -19,17 +20,17 @@ use Rattle.finder.proofs.inner.find_by.Tie as tie
 abbrev start : tie.After-fill-slacks → tie.Start
 start c = c .before .before .before .before
 
--- the book's problem, and the one that the table states at first
-abbrev problem : tie.After-fill-slacks → Problem
-problem c = problemOf (start c .args .book .now)
+abbrev book : tie.After-fill-slacks → List ℕ
+book c = start c .args .book .now
 
+-- the problem that the table states at first
 abbrev stated : tie.After-fill-slacks → Problem
 stated c = bySlacks (c .fill-slacks .last .1 .1 .1 .0) (start c .args .n) (start c .args .m)
 
 add-idle-requires : tie.Need-add-idle-requires
 add-idle-requires c κs =
     let f = c .before .before in
-    (f .fill-slacks .ensures .1 .0, start f .pre .1 .0 (c .before .if1 .taken))
+    (f .fill-slacks .ensures .1 .1 .0, start f .pre .1 .0 (c .before .if1 .taken))
 
 -- with the idle call's slacks the table states the enlarged problem
 module _ (c : tie.After-add-idle) where
@@ -39,12 +40,12 @@ module _ (c : tie.After-add-idle) where
   abbrev enlarged : Problem
   enlarged = bySlacks (c .add-idle .last .0) (start filled .args .n) (start filled .args .m + 1)
 
-  same-idle : Same (searched (start filled .args .idle) (problem filled)) enlarged
-  same-idle = subst⁻¹ (λ (b : Bool). Same (searched b (problem filled)) enlarged) (c .before .before .if1 .taken)
-      (same-trans (idle-same (filled .fill-slacks .ensures .0)) (c .add-idle .ensures .0))
+  same-idle : Same (searched (start filled .args .idle) (book filled)) enlarged
+  same-idle = subst⁻¹ (λ (b : Bool). Same (searched b (book filled)) enlarged) (c .before .before .if1 .taken)
+      (same-trans (filled .fill-slacks .ensures .1 .0) (c .add-idle .ensures .0))
 
   total-is : filled .fill-slacks .result + start filled .args .n ≡ size enlarged
-  total-is = omega (arith, filled .fill-slacks .ensures .1 .1, idle-size (stated filled), size-of-same (c .add-idle .ensures .0))
+  total-is = omega (arith, filled .fill-slacks .ensures .1 .1 .1, idle-size costLimit (stated filled), size-of-same (c .add-idle .ensures .0))
 
   few : size enlarged ≤ 1024
   few =
@@ -60,15 +61,15 @@ returns : tie.Need-returns
 returns c = rw (find-of-same (same-idle (c .before .before .before .before .before))) (c .before .before .find-by-slacks .ensures)
 
 -- the table is searched as it was filled
-same-plain : (c : tie.Else1) → Same (searched (start (c .before) .args .idle) (problem (c .before))) (stated (c .before))
-same-plain c = subst⁻¹ (λ (b : Bool). Same (searched b (problem (c .before))) (stated (c .before))) (c .if1 .left)
+same-plain : (c : tie.Else1) → Same (searched (start (c .before) .args .idle) (book (c .before))) (stated (c .before))
+same-plain c = subst⁻¹ (λ (b : Bool). Same (searched b (book (c .before))) (stated (c .before))) (c .if1 .left)
     (c .before .fill-slacks .ensures .0)
 
 find-by-slacks-requires-2 : tie.Need-find-by-slacks-requires-2
 find-by-slacks-requires-2 c κs =
     let e = c .before .before in
-    let r = e .before .fill-slacks .ensures in
-    (r .1 .0, r .1 .1, omega (arith, start (e .before) .pre .1 .1, r .1 .1, size-of-same (same-plain e)))
+    let r = e .before .fill-slacks .ensures .1 .1 in
+    (r .0, r .1, omega (arith, start (e .before) .pre .1 .1, r .1, size-of-same (same-plain e)))
 
 returns-2 : tie.Need-returns-2
 returns-2 c = rw (find-of-same (same-plain (c .before .before .before .before .before))) (c .before .before .find-by-slacks2 .ensures)

@@ -3,7 +3,7 @@ use mathlib.Core.Path.{_≡_, refl, _∙_, ap}
 use Prim.Native.Nat.{ℕ, suc, _+_, _*_, _-_, _≤_, min}
 use native.Mathlib.Omega.{arith}
 use lib.ListN.{getD}
-use Rattle.specification.specs.Costs.{costLimit}
+use Rattle.specification.specs.Costs.{costTop}
 use Rattle.book.specs.Table.{entry}
 use Rattle.finder.specs.Rows.{gapAt, Lowered}
 use Rattle.finder.proofs.Lowering.{lowered-none, lowered-more}
@@ -12,7 +12,7 @@ use Rattle.finder.proofs.rows.lower_row.Tie as tie
 
 abbrev Inv-loop : tie.InvT-loop
 Inv-loop slacks row₀ i l cost k₀ row k =
-    (cost ≡ suc costLimit - entry slacks l i) × (k ≤ 32) × Lowered (λ a. gapAt slacks i a l) k row₀ row
+    (cost ≡ suc costTop - entry slacks l i) × (k ≤ 32) × Lowered (λ a. gapAt slacks i a l) k row₀ row
 
 abbrev μ-loop : tie.MeasureT-loop
 μ-loop slacks row₀ i l cost k₀ row k = 32 - k
