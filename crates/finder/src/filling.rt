@@ -1,4 +1,5 @@
 // The table of slacks, filled lot by lot from the rows of a book that was read, and the slacks of an idle call.
+use book::inner::all_calls;
 use book::inner::cost_at;
 use book::inner::pair_count;
 use book::inner::set_from;
@@ -56,14 +57,6 @@ fn enter_all(book: &[u8], at: usize, lot: Lot, m: usize, slacks: &mut [u32; PAIR
         slacks[SIDE * j + i] = slack_of(cost_at(book, start + 4 * j));
     }
     start + 4 * m
-}
-
-// The word of a lot that has all m calls.
-fn all_calls(m: usize) -> u32
-    requires { ⌜ m ≤ 32 ⌝ }
-    ensures { λ r. ⌜ r ≡ 2 ^ m - 1 ⌝ }
-{
-    ((1u64 << m) - 1) as u32
 }
 
 // Enters the slacks of a lot, by its word.
