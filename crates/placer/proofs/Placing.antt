@@ -22,7 +22,8 @@ use Rattle.transport.proofs.Greedy.Idle.{pair-real}
 use Rattle.transport.proofs.Finder.Find.{find-is-order}
 use Rattle.specification.specs.declared.Placed.{Placed}
 use Rattle.specification.specs.Reply.{gives, refuses, _>>=_, afterwards, Size, statedPlaced}
-use Rattle.specification.specs.Book.{bookCalls, readBook, problemOf}
+use Rattle.specification.specs.Costs.{costBase}
+use Rattle.specification.specs.Book.{bookVersion, bookCalls, readBook, problemOf, costsOf}
 use Rattle.specification.specs.Amounts.{lotAmount, callAmount, readAmounts}
 use Rattle.specification.specs.Run.{outcome, flowOf, flowTooShort}
 use Rattle.specification.specs.Find.{orderOr13, foundToRun, findAndRun, findAndRunFlow}
@@ -36,23 +37,23 @@ use Rattle.run.proofs.Supplied.{real-part-is, lots-are, calls-are, long-enough,
 use Rattle.placer.specs.Placing.{Supplied, foundFor, placedBy, flowBy, Places}
 use Rattle.placer.proofs.Found.{IsFile, pairs-are, is-order, as-many}
 
-module _ (P E : Problem) (a b : ℕ → ℕ) (flow : List ℕ) where
-  pub places-17 : flowTooShort P flow ≡ true → (refuses 17 [] ≡ placedBy P E a b flow) × (flow ≡ flowBy P E a b flow)
+module _ (book : List ℕ) (E : Problem) (a b : ℕ → ℕ) (flow : List ℕ) where
+  pub places-17 : flowTooShort (problemOf book) flow ≡ true → (refuses 17 [] ≡ placedBy book E a b flow) × (flow ≡ flowBy book E a b flow)
   places-17 short = rw short (refl, refl)
 
   -- the flow is long enough
-  module _ (long : flowTooShort P flow ≡ false) where
-    pub places-13 : find E ≡ none → (refuses 13 [] ≡ placedBy P E a b flow) × (flow ≡ flowBy P E a b flow)
+  module _ (long : flowTooShort (problemOf book) flow ≡ false) where
+    pub places-13 : find E ≡ none → (refuses 13 [] ≡ placedBy book E a b flow) × (flow ≡ flowBy book E a b flow)
     places-13 found = rw (long, found, orderOr13) (refl, refl)
 
     places-run : (S : List Pair) → find E ≡ some S → (reply : Placed) (flow′ : List ℕ)
-        → ShowsEnd P (realPart P (greedy S a b)) flow reply flow′
-        → (statedPlaced reply ≡ placedBy P E a b flow) × (flow′ ≡ flowBy P E a b flow)
+        → ShowsEnd (problemOf book) (costsOf book) (realPart (problemOf book) (greedy S a b)) flow reply flow′
+        → (statedPlaced reply ≡ placedBy book E a b flow) × (flow′ ≡ flowBy book E a b flow)
     places-run S found reply flow′ ran = rw (long, found, orderOr13) (ran .reply-is, ran .flow-is)
 
 -- the search has left a file
 module _ (book : List ℕ) (n m : ℕ) (idle : Bool) (r : Remaining) (given : Supplied book n m idle r) (after : List ℕ) (count : ℕ)
-    (file : IsFile (searched idle (problemOf book)) after count) where
+    (file : IsFile (searched idle book) after count) where
   abbrev P : Problem
   P = problemOf book
 
@@ -62,7 +63,7 @@ module _ (book : List ℕ) (n m : ℕ) (idle : Bool) (r : Remaining) (given : Su
   sized : (n ≡ P .lots) × (m ≡ P .calls)
   sized = (lots-are book _ (given .reads), calls-are book _ (given .reads))
 
-  listed : Lists (searched idle P) S
+  listed : Lists (searched idle book) S
   listed = rw (pairs-are _ after count file) (lists-of-order (is-order _ after count file))
 
   pub few : count ≤ 1024
@@ -72,16 +73,16 @@ module _ (book : List ℕ) (n m : ℕ) (idle : Bool) (r : Remaining) (given : Su
   in-place : (i j : ℕ) → 0 < times i j S → Eligible P i j ⊎ ((i < n) × (j ≡ m) × (m < 32))
   in-place i j h = by-idle idle refl (listed .eligible i j h)
     where
-      by-idle : (b : Bool) → idle ≡ b → Eligible (searched b P) i j → Eligible P i j ⊎ ((i < n) × (j ≡ m) × (m < 32))
+      by-idle : (b : Bool) → idle ≡ b → Eligible (searched b book) i j → Eligible P i j ⊎ ((i < n) × (j ≡ m) × (m < 32))
       by-idle false _ e = inl e
       by-idle true is e = by-cases (ℕ-discrete j (P .calls))
           (λ at. inr (omega (arith, e .0, sized .0), at ∙ sym (sized .1), given .room is))
-          (λ ne. inl (pair-real P i j ne e))
+          (λ ne. inl (pair-real (costBase (bookVersion book)) P i j ne e))
 
-  spans : Spans P S (searched idle P .calls)
+  spans : Spans P S (searched idle book .calls)
   spans = record { own = own idle; listed = λ i j h. listed .eligible i j h .1 }
     where
-      own : (b : Bool) → P .calls ≤ searched b P .calls
+      own : (b : Bool) → P .calls ≤ searched b book .calls
       own false = le-refl (P .calls)
       own true = omega arith
 
@@ -97,10 +98,10 @@ module _ (book : List ℕ) (n m : ℕ) (idle : Bool) (r : Remaining) (given : Su
       flow-long = long;
     }
 
-    pub run-places : (reply : Placed) (flow′ : List ℕ) → AsGreedy S r P flow reply flow′ → Places idle P r flow reply flow′
+    pub run-places : (reply : Placed) (flow′ : List ℕ) → AsGreedy S r P (costsOf book) flow reply flow′ → Places idle book r flow reply flow′
     run-places reply flow′ as-greedy a b holds =
-        let ran = rw (pairs-are _ after count file) at (as-greedy (searched idle P .calls) a b spans holds) in
-        places-run P (searched idle P) a b flow (long-enough book _ (given .reads) flow long) (file .order) (file .found) reply flow′ ran
+        let ran = rw (pairs-are _ after count file) at (as-greedy (searched idle book .calls) a b spans holds) in
+        places-run book (searched idle book) a b flow (long-enough book _ (given .reads) flow long) (file .order) (file .found) reply flow′ ran
 
 -- the entry points, once the amounts are read
 module _ (book amounts flow : List ℕ) (size : Size) (read : readAmounts book amounts ≡ gives size) where
@@ -110,23 +111,23 @@ module _ (book amounts flow : List ℕ) (size : Size) (read : readAmounts book a
   abbrev b : ℕ → ℕ
   b = callAmount book amounts
 
-  pub plain-is : (findAndRun book amounts flow ≡ placedBy (problemOf book) (problemOf book) a b flow)
-      × (findAndRunFlow book amounts flow ≡ flowBy (problemOf book) (problemOf book) a b flow)
+  pub plain-is : (findAndRun book amounts flow ≡ placedBy book (problemOf book) a b flow)
+      × (findAndRunFlow book amounts flow ≡ flowBy book (problemOf book) a b flow)
   unfolding foundToRun findAndRun findAndRunFlow
   plain-is = rw read (by-tests (flowTooShort (problemOf book) flow) refl (find (problemOf book)) refl)
     where
       by-tests : (short : Bool) → flowTooShort (problemOf book) flow ≡ short → (o : Option (List Pair)) → find (problemOf book) ≡ o
-          → ((foundFor (problemOf book) (problemOf book) flow >>= λ S. gives (outcome (problemOf book) (greedy S a b)))
-          ≡ placedBy (problemOf book) (problemOf book) a b flow)
-          × (afterwards (foundFor (problemOf book) (problemOf book) flow) flow (λ S. flowOf (problemOf book) (greedy S a b .given) flow)
-          ≡ flowBy (problemOf book) (problemOf book) a b flow)
+          → ((foundFor book (problemOf book) flow >>= λ S. gives (outcome (problemOf book) (costsOf book) (greedy S a b)))
+          ≡ placedBy book (problemOf book) a b flow)
+          × (afterwards (foundFor book (problemOf book) flow) flow (λ S. flowOf (problemOf book) (greedy S a b .given) flow)
+          ≡ flowBy book (problemOf book) a b flow)
       by-tests true t o f = rw t (refl, refl)
       by-tests false t none f = rw (t, f, orderOr13) (refl, refl)
       by-tests false t (some found) f =
           let eligible = lists-of-order (find-is-order (problemOf book) found f) .eligible in
           let same = sym (real-part-is (problemOf book) found eligible a b) in
           rw (t, f, orderOr13)
-          (ap (λ s. gives (outcome (problemOf book) s)) same, ap (λ s. flowOf (problemOf book) (s .given) flow) same)
+          (ap (λ s. gives (outcome (problemOf book) (costsOf book) s)) same, ap (λ s. flowOf (problemOf book) (s .given) flow) same)
 
   pub refused-by-18 : lotsTotal book amounts < callsTotal book amounts
       → (refuses 18 [] ≡ findAndRunIdle book amounts flow) × (flow ≡ findAndRunIdleFlow book amounts flow)
@@ -139,8 +140,8 @@ module _ (book amounts flow : List ℕ) (size : Size) (read : readAmounts book a
   refused-by-19 enough all = rw (read, le-ltb (lotsTotal book amounts) (callsTotal book amounts) enough, all) (refl, refl)
 
   pub idle-is : callsTotal book amounts ≤ lotsTotal book amounts → (bookCalls book ≡ 32 → ⊥)
-      → (findAndRunIdle book amounts flow ≡ placedBy (problemOf book) (enlarged book) a (idleAmounts (problemOf book) a b) flow)
-      × (findAndRunIdleFlow book amounts flow ≡ flowBy (problemOf book) (enlarged book) a (idleAmounts (problemOf book) a b) flow)
+      → (findAndRunIdle book amounts flow ≡ placedBy book (enlarged book) a (idleAmounts (problemOf book) a b) flow)
+      × (findAndRunIdleFlow book amounts flow ≡ flowBy book (enlarged book) a (idleAmounts (problemOf book) a b) flow)
   unfolding foundToRunIdle findAndRunIdle findAndRunIdleFlow
   idle-is enough room = rw (read, le-ltb (lotsTotal book amounts) (callsTotal book amounts) enough, ne-eqb (bookCalls book) 32 room) (refl, refl)
 

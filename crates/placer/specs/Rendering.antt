@@ -5,11 +5,12 @@ use mathlib.Core.List.{List, [], _∷_, _++_}
 use mathlib.Core.Bool.{cond}
 use Prim.Native.Nat.{ℕ, _+_, _*_, _-_, _≤_}
 use lib.Dec.{eqb}
+use lib.IntN.{ℤ}
 use lib.ListN.{length, take, drop, replicate}
 use Rattle.transport.specs.Problem.{Problem}
 use Rattle.specification.specs.declared.Placed.{Placed}
 use Rattle.specification.specs.Reply.{gives, Outcome, statedPlaced}
-use Rattle.specification.specs.Text.{decimal, line, pairLines, textOf}
+use Rattle.specification.specs.Text.{decimal, decimalℤ, line, pairLines, textOf}
 use Rattle.placer.specs.declared.Printed.{Printed}
 
 -- how many bytes each piece has at most: the first line of an answer, the line of a pair, the lines of 1,024 pairs, the line of a refusal,
@@ -50,8 +51,8 @@ abbrev pub lineOf : ℕ → ℕ → ℕ → List ℕ
 lineOf i j units = cond (eqb units 0) [] (line (decimal i) (decimal j ∷ decimal units ∷ []))
 
 -- an answer that is no refusal, with its verdict's word
-abbrev pub answerText : List ℕ → ℕ → ℕ → ℕ → ℕ → List ℕ → List ℕ
-answerText verdict units cost n m flow = line verdict (decimal units ∷ decimal cost ∷ []) ++ pairLines m flow (n * m)
+abbrev pub answerText : List ℕ → ℕ → ℤ → ℕ → ℕ → List ℕ → List ℕ
+answerText verdict units cost n m flow = line verdict (decimal units ∷ decimalℤ cost ∷ []) ++ pairLines m flow (n * m)
 
 -- where the answer is no refusal, n and m are counts of lots and of calls
 abbrev pub CountsFit : Placed → ℕ → ℕ → Type 0

@@ -9,7 +9,6 @@ use specification::Placed;
 use specification::Refusal;
 ghost use mathlib.Core.Path.{_≡_};
 ghost use Rattle.specification.specs.Reply.{statedPlaced};
-ghost use Rattle.specification.specs.Book.{problemOf};
 ghost use Rattle.specification.specs.Find.{findAndRun, findAndRunFlow};
 ghost use Rattle.specification.specs.Idle.{findAndRunIdle, findAndRunIdleFlow};
 ghost use Rattle.specification.specs.Text.{printed};
@@ -36,7 +35,7 @@ fn find_then_run(
     flow: &mut [u32],
 ) -> Placed
     requires { ⌜ Supplied (now book) n m idle remaining ⌝ }
-    ensures { λ r. ⌜ Places idle (problemOf (now (book .entry))) remaining (now (flow .entry)) r (now (flow .exit)) ⌝ }
+    ensures { λ r. ⌜ Places idle (now (book .entry)) remaining (now (flow .entry)) r (now (flow .exit)) ⌝ }
 {
     if flow.len() < n * m {
         return Placed::Refused(Refusal::BufferTooShort);

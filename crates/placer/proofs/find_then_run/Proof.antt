@@ -7,7 +7,6 @@ use native.Mathlib.Nat.{mul-le-mul}
 use native.Mathlib.Omega.{arith}
 use borrow.Author.Needs.{needs}
 use lib.Seq.{length-take-le}
-use Rattle.specification.specs.Book.{problemOf}
 use Rattle.book.proofs.Readable.{counts-are}
 use Rattle.finder.specs.Searched.{searched}
 use Rattle.finder.proofs.Idle.{searched-within}
@@ -64,7 +63,7 @@ module _ (c : tie.After-known-told) where
   abbrev count : ℕ
   count = c .before .found .given .0 .0
 
-  file : IsFile (searched (start answered .args .idle) (problemOf (start answered .args .book .now))) (left answered) count
+  file : IsFile (searched (start answered .args .idle) (start answered .args .book .now)) (left answered) count
   file = file-found _ _ _ _ (answered .find-by .ensures) count (c .before .found .given .1)
 
   few-pairs : count ≤ 1024

@@ -1,7 +1,10 @@
 -- `placer::text::render` meets its contract, at each of its variants.
 use mathlib.Core.Path.{ap}
 use native.Mathlib.Omega.{arith}
-use borrow.Author.Needs.{needs}
+use borrow.Author.Needs.{needs, sfits-of}
+use mir.Syntax.{w64}
+use mir.Val.{SFits}
+use mir.Facts.{toZ-ofZ}
 use Rattle.specification.specs.Reply.{statedPlaced}
 use Rattle.placer.proofs.Whole.{rendered, given-text, refused-text}
 use Rattle.placer.proofs.text.render.Statement.{statement}
@@ -31,20 +34,26 @@ answer-text-requires-3 c κs =
 returns : tie.Need-returns
 returns c =
     let a = c .before .before in
-    rw (a .before .before .before .before .placed .given .1)
-    (rendered _ _ _ _ (a .answer-text .ensures) (omega arith) (given-text _ _ _ _))
+    let k = a .before .before .before in
+    let fits : SFits w64 (k .before .placed .given .0 .1 .0) = sfits-of (k .known-told .given .1 .0 .1) in
+    rw (k .before .placed .given .1)
+    (rendered _ _ _ _ (rw (toZ-ofZ fits) at (a .answer-text .ensures)) (omega arith) (given-text _ _ _ _))
 
 returns-2 : tie.Need-returns-2
 returns-2 c =
     let a = c .before .before in
-    rw (a .before .before .before .before .placed2 .given .1)
-    (rendered _ _ _ _ (a .answer-text2 .ensures) (omega arith) (given-text _ _ _ _))
+    let k = a .before .before .before in
+    let fits : SFits w64 (k .before .placed2 .given .0 .1 .0) = sfits-of (k .known-told2 .given .1 .0 .1) in
+    rw (k .before .placed2 .given .1)
+    (rendered _ _ _ _ (rw (toZ-ofZ fits) at (a .answer-text2 .ensures)) (omega arith) (given-text _ _ _ _))
 
 returns-3 : tie.Need-returns-3
 returns-3 c =
     let a = c .before .before in
-    rw (a .before .before .before .before .placed3 .given .1)
-    (rendered _ _ _ _ (a .answer-text3 .ensures) (omega arith) (given-text _ _ _ _))
+    let k = a .before .before .before in
+    let fits : SFits w64 (k .before .placed3 .given .0 .1 .0) = sfits-of (k .known-told3 .given .1 .0 .1) in
+    rw (k .before .placed3 .given .1)
+    (rendered _ _ _ _ (rw (toZ-ofZ fits) at (a .answer-text3 .ensures)) (omega arith) (given-text _ _ _ _))
 
 returns-4 : tie.Need-returns-4
 returns-4 c =
