@@ -1,7 +1,8 @@
 -- What a call hands back to C.
 use mathlib.Core.List.{List, [], _∷_}
 use mathlib.Core.Bool.{cond}
-use Prim.Native.Nat.{ℕ, _+_}
+use Prim.Native.Nat.{ℕ, suc, _+_, _-_}
+use lib.IntN.{ℤ, pos, negsuc}
 use lib.ListN.{length, getD}
 use lib.Dec.{eqb}
 use Rattle.specification.specs.Reply.{Reply, gives, refuses, Size, Verdict, full, covered, short, Outcome}
@@ -26,9 +27,14 @@ answerOf told (refuses k vs) = answer k 0 vs
 abbrev pub counts : Size → Answer
 counts size = answer 0 0 (size .lots ∷ size .calls ∷ [])
 
+-- a cost as 64 bits, two's complement: 2 ^ 64 is added to one below zero (document 02, request 4)
+abbrev pub bitsOf : ℤ → ℕ
+bitsOf (pos n) = n
+bitsOf (negsuc n) = 18446744073709551616 - suc n
+
 -- 1 and the cost of an eligible pair; 0 and 0 of one that is not eligible or not in the book
 abbrev pub costOf : PairCost → Answer
-costOf (costs cost) = answer 0 0 (1 ∷ cost ∷ [])
+costOf (costs cost) = answer 0 0 (1 ∷ bitsOf cost ∷ [])
 costOf notEligible = answer 0 0 (0 ∷ 0 ∷ [])
 costOf outside = answer 0 0 (0 ∷ 0 ∷ [])
 
@@ -44,7 +50,7 @@ verdictNumber short = 2
 
 -- units and cost
 abbrev pub placed : Outcome → Answer
-placed o = answer 0 (verdictNumber (o .verdict)) (o .units ∷ o .cost ∷ [])
+placed o = answer 0 (verdictNumber (o .verdict)) (o .units ∷ bitsOf (o .cost) ∷ [])
 
 -- the bytes of the book that hold a lot's costs: they follow the word that its row starts with; 0, 0 where there are none
 unfoldable pub stretchOf : List ℕ → ℕ → Stretch

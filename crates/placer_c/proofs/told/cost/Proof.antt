@@ -1,12 +1,19 @@
 -- `told::cost` meets its contract: each arm is given which answer it is.
-use borrow.Author.Needs.{needs}
-use Rattle.placer_c.specs.Answers.{answerOf}
+use borrow.Author.Needs.{needs, sfits-of}
+use mathlib.Core.Path.{_≡_, _∙_}
+use lib.IntN.{ℤ}
+use Rattle.placer_c.specs.Answers.{bitsOf, answerOf}
+use Rattle.placer_c.proofs.Signs.{bits-are}
 use Rattle.placer_c.proofs.told.cost.Statement.{statement}
 use Rattle.placer_c.proofs.told.cost.Tie as tie
 
 returns : tie.Need-returns
 unfolding answerOf
-returns c = simp (c .accepted .ensures, c .before .before .reply .given .1)
+returns c =
+    let k = c .before .before in
+    let cost : ℤ = k .before .reply .given .0 .0 in
+    let is : c .before .bits .result ≡ bitsOf cost = c .before .bits .ensures ∙ bits-are cost (sfits-of (k .known-told .given .0 .1)) in
+    simp (c .accepted .ensures, is, k .before .reply .given .1)
 
 returns-2 : tie.Need-returns-2
 unfolding answerOf
