@@ -1,2 +1,3 @@
 -- What a call hands back to C.
 pub mod Answers  -- each reply in six numbers, and a stretch in two
+pub mod Signed  -- what C reads of a cost

@@ -3,11 +3,14 @@
 -- than 17 digits.
 use mathlib.Core.Path.{_≡_, sym, _∙_}
 use mathlib.Core.Logic.{by-cases}
+use mathlib.Core.Bool.{Bool, true, false, cond}
 use mathlib.Core.List.{List, []}
 use Prim.Native.Nat.{ℕ, suc, _+_, _*_, _≤_}
 use native.Mathlib.Nat.{mul-comm, zero-mul, add-mul, mul-le-mul-left, mul-le-mul, le-of-suc-le-suc}
 use native.Mathlib.Omega.{arith}
-use lib.Signed.{mag}
+use lib.Dec.{eqb, leb→le}
+use lib.IntN.{ℤ, pos, negsuc, negℤ}
+use lib.Signed.{mag, _≤ℤ_}
 use lib.ListN.{replicate, length-replicate}
 use Rattle.transport.specs.Problem.{Problem, Eligible, sum, lotSum, units, totalCost, Allocation, Within}
 use Rattle.transport.specs.Greedy.{State}
@@ -21,8 +24,8 @@ use Rattle.transport.proofs.Greedy.Signed.{cost-signed}
 use Rattle.transport.proofs.Finder.Find.{find-is-order}
 use Rattle.transport.proofs.Theorems.Idle.{idle-is-allocation}
 use Rattle.specification.specs.Reply.{gives, refuses, Size, Outcome}
-use Rattle.specification.specs.Costs.{costLimit, costBase}
-use Rattle.specification.specs.Book.{bookVersion, problemOf, costsOf}
+use Rattle.specification.specs.Costs.{costLimit, costBase, Allows}
+use Rattle.specification.specs.Book.{bookVersion, problemOf, costsOf, costs, pairCost}
 use Rattle.specification.specs.Amounts.{amountLimit, lotAmount, callAmount, readAmounts}
 use Rattle.specification.specs.OrderFile.{orderPairs, orderFile}
 use Rattle.specification.specs.Run.{greedyOn, outcome, runOrder}
@@ -33,6 +36,7 @@ use Rattle.specification.proofs.Costs.{base-within}
 use Rattle.specification.proofs.Books.{BookRead, problem-within, lifted-within, book-lifts}
 use Rattle.specification.proofs.AmountsFiles.{AmountsRead, amounts-read, amounts-within}
 use Rattle.specification.proofs.Lines.{amounts-in-table}
+use Rattle.specification.proofs.PairCosts.{pair-cost-says}
 use Rattle.specification.proofs.Runs.{run-says}
 use Rattle.specification.proofs.FindRuns.{FindRunRefused, of-amounts, flow-too-short, find-and-run-says, find-and-run-is-run}
 use Rattle.specification.proofs.IdleRuns.{idle-says}
@@ -115,6 +119,19 @@ idle-amount-within book amounts n reads =
       problem-within read,
       sum-le (problemOf book .lots) amountLimit (lotAmount amounts) (amounts-within read amounts-are .lots-within),
     )
+
+-- and the cost of one pair
+allows-small : (version : ℕ) (z : ℤ) → Allows version z → mag z ≤ costLimit
+allows-small version z = by-version (eqb version 2) z
+  where
+    by-version : (b : Bool) (z : ℤ) → (negℤ (pos (cond b costLimit 0)) ≤ℤ z) × (z ≤ℤ pos costLimit) → mag z ≤ costLimit
+    by-version b (pos n) (low, high) = leb→le n costLimit (high .le)
+    by-version true (negsuc n) (low, high) = omega (arith, leb→le n 999999 (low .le))
+    by-version false (negsuc n) (low, high) = absurd (low .le)
+
+pub pair-cost-within : (book : List ℕ) (lot call : ℕ) (cost : ℤ) → pairCost book lot call ≡ gives (costs cost) → mag cost ≤ costLimit
+pair-cost-within book lot call cost e =
+    allows-small (bookVersion book) cost (said-of-given (pair-cost-says book lot call) (costs cost) e)
 
 -- 1,024 flow entries are enough for every book: the printing program never meets 17
 cells-within : {book : List ℕ} {n : Size} → BookRead book n → problemOf book .lots * problemOf book .calls ≤ 1024

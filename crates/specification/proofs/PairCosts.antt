@@ -1,7 +1,7 @@
 -- The cost of one pair: what the reply is, by where the pair stands in a book that is read.
 use mathlib.Core.Path.{_≡_, refl, _∙_}
 use mathlib.Core.Logic.{_⊎_, ⊎-elim}
-use mathlib.Core.Bool.{cond, _&&_}
+use mathlib.Core.Bool.{Bool, true, false, cond, _&&_}
 use mathlib.Core.List.{List}
 use Prim.Native.Nat.{ℕ, _≤_, _<_}
 use native.Mathlib.Omega.{arith}
@@ -9,13 +9,27 @@ use lib.Dec.{T, ltb, ltb→lt, lt→ltb}
 use Rattle.transport.specs.Problem.{Eligible}
 use Rattle.transport.proofs.Laws.Tests.{T-true, T-false, and-says}
 use Rattle.specification.specs.Reply.{gives, Size}
-use Rattle.specification.specs.Book.{readBook, problemOf, costsOf, costs, notEligible, outside, pairCost}
+use Rattle.specification.specs.Costs.{Allows}
+use Rattle.specification.specs.Book.{bookVersion, readBook, problemOf, costsOf, PairCost, costs, notEligible, outside, pairCost}
 use Rattle.specification.proofs.Replies.{Says, giving, says-then}
-use Rattle.specification.proofs.Books.{BookRefused, book-says, book-limits}
+use Rattle.specification.proofs.Books.{BookRead, BookRefused, book-says, admitted-inside, cost-within, book-limits}
+
+-- a cost is one that the book's version allows
+abbrev pub CostAllowed : List ℕ → PairCost → Type 0
+CostAllowed book (costs z) = Allows (bookVersion book) z
+CostAllowed book notEligible = Unit {0}
+CostAllowed book outside = Unit {0}
 
 -- it is refused as the book is
-pub pair-cost-says : (book : List ℕ) (i j : ℕ) → Says (λ _. Unit {0}) (BookRefused book) (pairCost book i j)
-pair-cost-says book i j = says-then _ (book-says book) (λ k vs q. q) (λ n read. giving tt)
+pub pair-cost-says : (book : List ℕ) (i j : ℕ) → Says (CostAllowed book) (BookRefused book) (pairCost book i j)
+pair-cost-says book i j = says-then _ (book-says book) (λ k vs q. q) (λ n read.
+    giving (by-tests read (ltb i (n .lots) && ltb j (n .calls)) (problemOf book .admits i j) refl))
+  where
+    by-tests : {n : Size} → BookRead book n → (inside eligible : Bool) → problemOf book .admits i j ≡ eligible
+        → CostAllowed book (cond inside (cond eligible (costs (costsOf book i j)) notEligible) outside)
+    by-tests read false eligible e = tt
+    by-tests read true false e = tt
+    by-tests read true true e = cost-within read i j (admitted-inside book i j (rw e tt))
 
 module _ (book : List ℕ) (n : Size) (e : readBook book ≡ gives n) (i j : ℕ) where
   pair-inside : i < n .lots → j < n .calls
