@@ -3,7 +3,7 @@ use mathlib.Core.Path.{_≡_, ap}
 use mathlib.Core.List.{[], _∷_}
 use Rattle.specification.specs.Find.{findAndRun}
 use Rattle.specification.specs.Examples.{amounts, book1235, amounts5436, bookGap, bookEmpty, known-examples}
-use Rattle.specification.proofs.RebateCases.{bookRebates, rebate-cases}
+use Rattle.specification.proofs.AllRebates.{bookRebates, rebate-cases}
 use Rattle.placer_c.specs.Answers.{answer, answerOf, placed}
 
 pub record AnswersForC : Type 0 where

@@ -25,7 +25,7 @@ use Rattle.specification.specs.Idle.{enlarged, enlargedCosts}
 use Rattle.specification.specs.Requests.{SomeMeetsCalls, Allowed, IdleRun, ThreeEligible}
 use Rattle.specification.specs.Examples.{amounts, book1235, amounts5436, bookGap, bookEmpty, bookDiagonal, known-examples}
 use Rattle.specification.proofs.AllCases.{bookCorners, bookSpare, amountsSpare, idle-cases, bookSteps}
-use Rattle.specification.proofs.RebateCases.{bookRebates, bookRebate, amountsRebate, rebate-cases}
+use Rattle.specification.proofs.AllRebates.{bookRebates, bookRebate, amountsRebate, rebate-cases}
 use Rattle.specification.proofs.Replies.{not-both}
 use Rattle.specification.proofs.Books.{admitted-inside}
 use Rattle.specification.proofs.Verdicts.{short-not-full, short-not-covered}

@@ -1,6 +1,6 @@
 -- What is proved of document 01's definitions: what each reply means, and the demands.
 pub mod AllCases  -- each number of the table on an input that shows it, computed
-pub mod RebateCases  -- costs below zero (request 4), computed
+pub mod AllRebates  -- costs below zero (request 4), computed
 pub mod Replies  -- what a reply means is read off its steps
 pub mod Numbers  -- little-endian numbers of a part of a file
 pub mod Bits  -- set bits of a word, and the book's test for 5
