@@ -1,5 +1,5 @@
--- Cases of request 4, computed from the definitions as in `AllCases`: both ends of the range in both versions, the versions of the three files, and books
--- with rebates whose least cost is below zero.
+-- Cases of request 4, computed from the definitions as in `AllCases`: both ends of the range in both versions, the versions of the three
+-- files, and books with rebates whose least cost is below zero.
 use mathlib.Core.Path.{_≡_, refl}
 use mathlib.Core.List.{List, [], _∷_, _++_}
 use Prim.Native.Nat.{ℕ, _-_}
