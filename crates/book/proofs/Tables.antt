@@ -18,10 +18,10 @@ use Rattle.transport.proofs.Finder.Same.{Same}
 use Rattle.specification.specs.Bytes.{u32At}
 use Rattle.specification.specs.Costs.{costLimit, costTop, costBase, liftedCost}
 use Rattle.specification.specs.Book.{bit, rowWord, rowCost, bookVersion, bookLots, rowAt, rowStart, problemOf}
-use Rattle.specification.proofs.Costs.{base-within, raised-is}
+use Rattle.specification.proofs.Costs.{raised-is, raised-within}
 use Rattle.specification.proofs.Numbers.{u32-drop}
 use Rattle.specification.proofs.Flows.{tabulate-at}
-use Rattle.specification.proofs.Books.{admitted-inside, cost-allowed, lifted-within}
+use Rattle.specification.proofs.Books.{admitted-inside, cost-allowed}
 use Rattle.specification.proofs.Starts.{row-is, row-inside, cost-inside}
 use Rattle.book.specs.Pairs.{hasCost, onesBelow, costOffset, offsetTable}
 use Rattle.book.specs.Table.{entry, raisedAt, admitsBy, problemBy, Tabled, Packed, Worded}
@@ -55,12 +55,15 @@ module _ (book : List ℕ) {n m : ℕ} (read : Read book n m) where
   lacking = costLimit - costBase (bookVersion book)
 
   -- at the offset of an eligible pair the book holds its cost
+  held-at : (i j : ℕ) → Eligible (problemOf book) i j → u32At book (entry (offsetTable book) i j) ≡ rowCost (rowAt book i) j
+  held-at i j e =
+      entry-cost book i j (lot-few i (e .0)) (call-few j (e .1)) (rw (read .is-readable) (T-true (problemOf book .admits i j) (e .2)))
+
   pub cost-at : (i j : ℕ) → Eligible (problemOf book) i j
       → raisedAt book (entry (offsetTable book) i j) ≡ problemOf book .cost i j + lacking
   unfolding problemOf lacking
   cost-at i j e =
-      let has : hasCost book i j ≡ true = rw (read .is-readable) (T-true (problemOf book .admits i j) (e .2)) in
-      ap (liftedCost costLimit) (entry-cost book i j (lot-few i (e .0)) (call-few j (e .1)) has)
+      ap (liftedCost costLimit) (held-at i j e)
       ∙ raised-is (bookVersion book) (rowCost (rowAt book i) j) (cost-allowed (read .known) i j e)
 
   -- a pair with the offset 0 is not eligible
@@ -72,7 +75,6 @@ module _ (book : List ℕ) {n m : ℕ} (read : Read book n m) where
   offset-inside i j true e = rw e (cost-inside (read .known) i j (admitted-inside book i j (rw (rw (read .is-readable) at e) tt)))
 
   pub offsets-tabled : Tabled book (offsetTable book)
-  unfolding lacking
   offsets-tabled = record { within = within; cheap = cheap }
     where
       within : (k : ℕ) → k < 1024 → getD (offsetTable book) k 0 + 4 ≤ length book
@@ -83,12 +85,7 @@ module _ (book : List ℕ) {n m : ℕ} (read : Read book n m) where
       cheap k h stands =
           let at : k ≡ 32 * (k / 32) + k % 32 = omega arith in
           let e = eligible-at (k / 32) (k % 32) (omega arith) (omega arith) (λ z. stands (rw at z)) in
-          rw at (omega (
-            arith,
-            cost-at (k / 32) (k % 32) e,
-            lifted-within (read .known) (k / 32) (k % 32) e,
-            base-within (bookVersion book),
-          ))
+          rw (at, held-at (k / 32) (k % 32) e) (raised-within (bookVersion book) _ (cost-allowed (read .known) (k / 32) (k % 32) e))
 
   -- the offsets of a lot's costs go by its word: where the last of m is that of a cost with m - 1 before it, all m bits are set
   pub offsets-packed : 0 < m → m ≤ 32 → Packed (offsetTable book) m

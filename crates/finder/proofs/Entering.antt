@@ -24,7 +24,7 @@ use Rattle.specification.specs.Bytes.{u32At}
 use Rattle.specification.specs.Costs.{costLimit, costTop, costBase, liftedCost}
 use Rattle.specification.specs.Book.{bit, rowWord, rowSize, rowCost, bookVersion, bookLots, bookCalls, rowAt, rowStart, problemOf}
 use Rattle.specification.specs.Idle.{enlarged}
-use Rattle.specification.proofs.Costs.{base-within, cost-lifted, raised-is}
+use Rattle.specification.proofs.Costs.{base-within, raised-is, raised-within}
 use Rattle.specification.proofs.Numbers.{u32-drop}
 use Rattle.specification.proofs.Rows.{RowRead}
 use Rattle.specification.proofs.Books.{BookRead, book-length}
@@ -41,9 +41,7 @@ use Rattle.slacks.proofs.BySlacks.{capped-zeros, capped-set}
 raised-low : {row : List ℕ} {version calls : ℕ} → RowRead row version calls → (j : ℕ) → bit (rowWord row) j ≡ true
     → liftedCost costLimit (rowCost row j) ≤ costTop
 raised-low {row} {version} {calls} r j e =
-    let held : ℕ = rowCost row j in
-    let inside = r .costs-within j (bit-below (rowWord row) j calls e (r .word-below)) (rw e tt) in
-    omega (arith, raised-is version held inside, cost-lifted version held inside .within, base-within version)
+    raised-within version (rowCost row j) (r .costs-within j (bit-below (rowWord row) j calls e (r .word-below)) (rw e tt))
 
 -- ---- the table, entry by entry
 module _ (book : List ℕ) where

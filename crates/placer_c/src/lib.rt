@@ -14,7 +14,8 @@ ghost use Rattle.specification.specs.Find.{findOrder, findBuffer, findAndRun, f
 ghost use Rattle.specification.specs.Idle.{findAndRunIdle, findAndRunIdleFlow};
 ghost use Rattle.placer_c.specs.Answers.{answerOf, counts, costOf, number, placed, stretchOf};
 
-// A reply: 0 or the refusal's number; 1 for Full, 2 for Short, 3 for Covered, else 0; and up to four values, the others 0.
+// A reply: 0 or the refusal's number; 1 for Full, 2 for Short, 3 for Covered, else 0; and up to four values, the others 0. A cost is a
+// 64-bit two's complement number.
 #[repr(C)]
 pub struct Answer {
     pub number: u32,

@@ -1,5 +1,5 @@
 -- Laws of costs by version: a cost that is not outside its version's range is the lifted cost less the base, and the test for 7 is one of
--- the lifted cost alone. Then the ends of the range, computed.
+-- the lifted cost alone.
 use mathlib.Core.Path.{_≡_, refl, sym, _∙_, ap}
 use mathlib.Core.Logic.{by-cases, ⊎-elim}
 use mathlib.Core.Bool.{Bool, true, false, cond, _||_, or-false, true≢false}
@@ -10,11 +10,9 @@ use borrow.Author.Tests.{lt-ltb, le-ltb, ltb-false}
 use lib.Dec.{T, ltb, eqb, ltb→lt, lt→ltb}
 use lib.IntN.{ℤ, pos, negsuc, negℤ, _+ℤ_, _-ℤ_, +ℤ-negℤ-cancel}
 use lib.Signed.{ltZ, ltZ-yes, ltZ-no, clashℤ}
-use mir.Syntax.{w32}
-use mir.Val.{toZ}
 use Rattle.transport.proofs.Laws.Tests.{T-ext, or-says}
 use Rattle.transport.proofs.Laws.Integers.{added-of}
-use Rattle.specification.specs.Costs.{costLimit, twosComplement, heldCost, costBase, costOutside, Allows, liftedCost}
+use Rattle.specification.specs.Costs.{costLimit, costTop, twosComplement, heldCost, costBase, costOutside, Allows, liftedCost}
 
 -- the three parts that two's complement has of the natural numbers; the last has no 32-bit number in it
 module _ (held : ℕ) (X : ℤ → Type 0) (low : held < 2147483648 → X (pos held))
@@ -104,6 +102,10 @@ raised-is version held e = by-version (eqb version 2) (cost-lifted version held 
     by-version true low = omega arith
     by-version false low = omega arith
 
+pub raised-within : (version held : ℕ) → costOutside version held ≡ false → liftedCost costLimit held ≤ costTop
+raised-within version held e =
+    omega (arith, raised-is version held e, cost-lifted version held e .within, base-within version)
+
 -- of 32-bit numbers the test is one of the lifted cost
 ltb-same : (a b c d : ℕ) → (a < b → c < d) → (c < d → a < b) → ltb a b ≡ ltb c d
 ltb-same a b c d f g = T-ext (ltb a b) (ltb c d) (λ t. lt→ltb c d (f (ltb→lt a b t))) (λ t. lt→ltb a b (g (ltb→lt c d t)))
@@ -133,26 +135,3 @@ cost-tested version held fits = by-version (eqb version 2)
     by-version : (b : Bool) → Tested (cond b costLimit 0) held (cond b (twosComplement held) (pos held))
     by-version true = signed-tested held fits
     by-version false = unsigned-tested held fits
-
--- and two's complement is the machine's own reading of 32 bits
-pub twos-complement-is : (held : ℕ) → held < 4294967296 → twosComplement held ≡ toZ w32 held
-twos-complement-is held fits = twos-cases held (λ z. z ≡ toZ w32 held)
-    (λ h. rw (lt-ltb held 2147483648 h))
-    (λ h g. rw (le-ltb held 2147483648 h))
-    (λ h. absurd (omega arith))
-
--- Version 2: fff0bdc0 is -1,000,000 and the number below it is outside, 000f4240 is 1,000,000 and the number above it is outside;
--- ffffffff is -1, and 80000000, the lowest of all, is outside
-signed-ends : (heldCost 2 0xfff0bdc0 ≡ negℤ (pos 1000000)) × (costOutside 2 0xfff0bdc0 ≡ false) × (liftedCost costLimit 0xfff0bdc0 ≡ 0)
-    × (heldCost 2 0xfff0bdbf ≡ negℤ (pos 1000001)) × (costOutside 2 0xfff0bdbf ≡ true)
-    × (heldCost 2 0x000f4240 ≡ pos 1000000) × (costOutside 2 0x000f4240 ≡ false) × (liftedCost costLimit 0x000f4240 ≡ 2000000)
-    × (heldCost 2 0x000f4241 ≡ pos 1000001) × (costOutside 2 0x000f4241 ≡ true)
-    × (heldCost 2 0xffffffff ≡ negℤ (pos 1)) × (costOutside 2 0xffffffff ≡ false) × (liftedCost costLimit 0xffffffff ≡ 999999)
-    × (heldCost 2 0x80000000 ≡ negℤ (pos 2147483648)) × (costOutside 2 0x80000000 ≡ true)
-signed-ends = (refl, refl, refl, refl, refl, refl, refl, refl, refl, refl, refl, refl, refl, refl, refl)
-
--- Version 1: all of these are numbers from 0 up, and of them only 000f4240 is not outside
-unsigned-ends : (heldCost 1 0x000f4240 ≡ pos 1000000) × (costOutside 1 0x000f4240 ≡ false) × (liftedCost 0 0x000f4240 ≡ 1000000)
-    × (costOutside 1 0x000f4241 ≡ true) × (costOutside 1 0x80000000 ≡ true) × (costOutside 1 0xfff0bdbf ≡ true)
-    × (costOutside 1 0xfff0bdc0 ≡ true) × (heldCost 1 0xffffffff ≡ pos 4294967295) × (costOutside 1 0xffffffff ≡ true)
-unsigned-ends = (refl, refl, refl, refl, refl, refl, refl, refl, refl)

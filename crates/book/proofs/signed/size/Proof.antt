@@ -5,8 +5,6 @@ use mathlib.Core.Bool.{Bool}
 use borrow.Author.Needs.{needs}
 use lib.IntN.{pos, natAbs}
 use lib.Signed.{ltZ}
-use mir.Syntax.{w64}
-use mir.Val.{ofZ}
 use mir.Facts.{toZ-ofZ}
 use Rattle.book.proofs.Signs.{size-below, upward-is}
 use Rattle.book.proofs.signed.size.Statement.{statement}
