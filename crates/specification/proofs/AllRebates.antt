@@ -32,13 +32,13 @@ abbrev minus : ℕ → List ℕ
 minus n = (256 - n) ∷ 255 ∷ 255 ∷ 255 ∷ []
 
 -- 1 by 1, of version 2; -1,000,000 and -1,000,001, and the lowest number of 32 bits
-abbrev singleSigned : List ℕ → List ℕ
+abbrev pub singleSigned : List ℕ → List ℕ
 singleSigned cost = signedBook 1 1 (words (1 ∷ []) ++ cost)
 
 abbrev lowestCost : List ℕ
 lowestCost = 192 ∷ 189 ∷ 240 ∷ 255 ∷ []
 
-abbrev lowCost : List ℕ
+abbrev pub lowCost : List ℕ
 lowCost = 191 ∷ 189 ∷ 240 ∷ 255 ∷ []
 
 abbrev lowest32 : List ℕ
@@ -62,6 +62,9 @@ pub record RebateCases : Type 0 where
   pub highest : readBook (singleSigned highestCost) ≡ gives (record { lots = 1; calls = 1 })
   pub too-high : readBook (singleSigned highCost) ≡ refuses 7 (0 ∷ 0 ∷ [])
   pub far-too-low : readBook (singleSigned lowest32) ≡ refuses 7 (0 ∷ 0 ∷ [])
+  -- the lowest call is told, and the lot
+  pub lowest-call : readBook (signedBook 1 2 (words (3 ∷ []) ++ (lowCost ++ highCost))) ≡ refuses 7 (0 ∷ 0 ∷ [])
+  pub second-lot : readBook (signedBook 2 2 (words (1 ∷ 0 ∷ 2 ∷ []) ++ lowCost)) ≡ refuses 7 (1 ∷ 1 ∷ [])
   pub minus-one : pairCost (singleSigned (minus 1)) 0 0 ≡ gives (costs (negsuc 0))
   -- in version 1 no cost is below zero
   pub unsigned-lowest : readBook (single lowestCost) ≡ refuses 7 (0 ∷ 0 ∷ [])
@@ -91,6 +94,9 @@ pub record RebateCases : Type 0 where
   -- the lowest cost of one pair with the highest amount
   pub lowest-run : findAndRun (singleSigned lowestCost) (singles highestAmount) (0 ∷ [])
       ≡ gives (record { verdict = full; units = 1000000000; cost = negsuc 999999999999999 })
+  pub printed-lowest : printed (singleSigned lowestCost) (singles highestAmount)
+      ≡ 70 ∷ 85 ∷ 76 ∷ 76 ∷ 32 ∷ (49 ∷ replicate 9 48) ++ (32 ∷ 45 ∷ (49 ∷ replicate 15 48)
+      ++ (10 ∷ 48 ∷ 32 ∷ 48 ∷ 32 ∷ (49 ∷ replicate 9 48) ++ (10 ∷ [])))
   -- with an idle call the lot with the rebate is placed, two units at -3; without one the other, at 5
   pub idle-rebate : findAndRunIdle bookRebate amountsRebate (8 ∷ 8 ∷ []) ≡ gives (record { verdict = covered; units = 2; cost = negsuc 5 })
   pub plain-rebate : findAndRun bookRebate amountsRebate (8 ∷ 8 ∷ []) ≡ gives (record { verdict = covered; units = 2; cost = pos 10 })
@@ -106,6 +112,8 @@ rebate-cases =
       highest = refl;
       too-high = refl;
       far-too-low = refl;
+      lowest-call = refl;
+      second-lot = refl;
       minus-one = refl;
       unsigned-lowest = refl;
       unsigned-far = refl;
@@ -123,6 +131,7 @@ rebate-cases =
       printed-rebates = refl;
       printed-zero = refl;
       lowest-run = refl;
+      printed-lowest = refl;
       idle-rebate = refl;
       plain-rebate = refl;
     }

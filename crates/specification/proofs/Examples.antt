@@ -6,6 +6,7 @@ use mathlib.Core.List.{List, [], _∷_}
 use Prim.Native.Nat.{ℕ, _≤_}
 use native.Mathlib.Omega.{arith}
 use lib.Count.{ones, onesIn}
+use lib.Dec.{lit<, lit≤}
 use lib.IntN.{pos, negsuc}
 use lib.Signed.{_≤ℤ_}
 use lib.ListN.{length, replicate}
@@ -22,10 +23,10 @@ use Rattle.specification.specs.Run.{runOrder}
 use Rattle.specification.specs.Find.{orderLength, findOrder}
 use Rattle.specification.specs.Demands.{Readable, Passing, GoodOrder, returned}
 use Rattle.specification.specs.Idle.{enlarged, enlargedCosts}
-use Rattle.specification.specs.Requests.{SomeMeetsCalls, Allowed, IdleRun, ThreeEligible}
+use Rattle.specification.specs.Requests.{SomeMeetsCalls, Allowed, IdleRun, ThreeEligible, FirstOutside}
 use Rattle.specification.specs.Examples.{amounts, book1235, amounts5436, bookGap, bookEmpty, bookDiagonal, known-examples}
 use Rattle.specification.proofs.AllCases.{bookCorners, bookSpare, amountsSpare, idle-cases, bookSteps}
-use Rattle.specification.proofs.AllRebates.{bookRebates, bookRebate, amountsRebate, rebate-cases}
+use Rattle.specification.proofs.AllRebates.{singleSigned, lowCost, bookRebates, bookRebate, amountsRebate, rebate-cases}
 use Rattle.specification.proofs.Replies.{not-both}
 use Rattle.specification.proofs.Books.{admitted-inside}
 use Rattle.specification.proofs.Verdicts.{short-not-full, short-not-covered}
@@ -85,6 +86,8 @@ pub record NotVacuous : Type 0 where
   -- a readable book of each version, with an eligible pair
   pub version-1 : (bookVersion bookSteps ≡ 1) × Eligible (problemOf bookSteps) 0 1
   pub version-2 : Readable bookRebates × (bookVersion bookRebates ≡ 2) × Eligible (problemOf bookRebates) 0 1
+  -- a row with a cost outside the range
+  pub first-outside : FirstOutside (rowAt (singleSigned lowCost) 0) 2 1 0
   -- a least cost below zero: some allocation meets everything, and none that does costs less than -14
   pub least-below-zero : ((x : ℕ → ℕ → ℕ) × Meets (problemOf bookRebates) (lotAmount amounts5436) (callAmount bookRebates amounts5436) x)
       × ((x : ℕ → ℕ → ℕ) → Meets (problemOf bookRebates) (lotAmount amounts5436) (callAmount bookRebates amounts5436) x
@@ -158,6 +161,17 @@ of-version-2 : (bookVersion bookRebates ≡ 2) × Eligible (problemOf bookRebate
 unfolding problemOf rowAt u16At u32At ones
 of-version-2 = (refl, admitted-inside bookRebates _ _ tt)
 
+low-first : FirstOutside (rowAt (singleSigned lowCost) 0) 2 1 0
+unfolding rowAt u16At u32At ones onesIn
+low-first = record {
+  word-below = lit< tt;
+  whole = lit≤ tt;
+  inside = lit< tt;
+  set = tt;
+  outside = λ (low, _). low .le;
+  first = λ k less. absurd (omega arith);
+}
+
 reads-amounts : readAmounts book1235 amounts5436 ≡ gives (record { lots = 2; calls = 2 })
 unfolding readAmounts readAmountsOf u16At u32At readOpening every
 reads-amounts = rw reads-1235 refl
@@ -214,6 +228,7 @@ not-vacuous =
       quadruple-own = let own = three-gap .own in record { readable = three-gap .readable; own = own; by-lot = own; by-call = own };
       version-1 = (of-version-1, three-1-3 .own);
       version-2 = ((_, reads-rebates), of-version-2 .0, of-version-2 .1);
+      first-outside = low-first;
       least-below-zero = (rebates .verdicts .full-iff .0 refl, rebates .least-cost);
       idle-below-zero = (idle-rebate .covered-by-totals .0 refl .1, idle-rebate .least-cost);
     }

@@ -58,6 +58,14 @@ opened-version {mark} {s} opened =
     let low = nltb→le 2 version few in
     by-cases (ℕ-discrete version 1) inl (λ other. inr (omega arith))
 
+-- of one, it is that
+pub opened-first : {mark s : List ℕ} → Opened mark 1 s → u16At s 3 ≡ 1
+opened-first {mark} {s} opened =
+    let version : ℕ = u16At s 3 in
+    let (some, few) = neither-of-or (eqb version 0) (ltb 1 version) (opened .version-stands) in
+    let positive : (version ≡ 0 → ⊥) = λ e. T-not (eqb version 0) some (rw e tt) in
+    omega (arith, nltb→le 1 version few)
+
 -- the costs of the calls below j are within the range
 abbrev CostsWithin : List ℕ → ℕ → ℕ → Type 0
 CostsWithin row version j = (m : ℕ) → m < j → T (bit (rowWord row) m) → costOutside version (rowCost row m) ≡ false

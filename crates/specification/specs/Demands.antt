@@ -186,8 +186,8 @@ pub record Demand2 : Type 0 where
       → readAmounts book amounts ≡ gives n → n .lots * n .calls ≤ length flow → findAndRun book amounts flow ≡ refuses 13 []
 
 -- "An order of the eligible pairs is good if, for all amounts of equal total within the limits, GREEDY by it meets everything whenever
--- some allocation does, and every other allocation that meets everything costs at least as much" (`SignedGood`, in transport), c being the cost of each
--- pair
+-- some allocation does, and every other allocation that meets everything costs at least as much" (`SignedGood`, in transport), c being the
+-- cost of each pair
 abbrev pub GoodOrder : Problem → (ℕ → ℕ → ℤ) → List Pair → Type 0
 GoodOrder P c S = OrderOf P S × SignedGood amountLimit P c S
 

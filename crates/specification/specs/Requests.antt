@@ -5,7 +5,8 @@ use mathlib.Core.Path.{_≡_}
 use mathlib.Core.Logic.{_⊎_, _↔_}
 use mathlib.Core.Bool.{true}
 use mathlib.Core.List.{List, [], _∷_}
-use Prim.Native.Nat.{ℕ, _+_, _*_, _≤_, _<_}
+use Prim.Native.Nat.{ℕ, _+_, _*_, _^_, _≤_, _<_}
+use lib.Dec.{T, ltb}
 use lib.ListN.{length}
 use lib.IntN.{ℤ, pos, negℤ, _-ℤ_}
 use lib.Signed.{_≤ℤ_}
@@ -15,11 +16,12 @@ use Rattle.transport.specs.Signed.{signedCost, SignedFit, Lifts}
 use Rattle.specification.specs.declared.Quadruple.{Quadruple}
 use Rattle.specification.specs.declared.Quadruple.the-variants as quadruple
 use Rattle.specification.specs.Reply.{gives, refuses, Size, Outcome, full, covered, statedQuadruple}
-use Rattle.specification.specs.Bytes.{u32At, bookMark, marked}
-use Rattle.specification.specs.Costs.{twosComplement, heldCost, costBase, Allows}
-use Rattle.specification.specs.Book.{rowCost, bookVersion, readBook, rowAt, costStart, problemOf, costsOf}
+use Rattle.specification.specs.Bytes.{u16At, u32At, bookMark, marked}
+use Rattle.specification.specs.Costs.{twosComplement, heldCost, costBase, costOutside, Allows}
+use Rattle.specification.specs.Book.{bit, rowWord, rowSize, rowCost, readRow, bookVersion, bookLots, bookCalls, readBook}
+use Rattle.specification.specs.Book.{rowAt, costStart, problemOf, costsOf}
 use Rattle.specification.specs.Amounts.{readAmounts, lotAmount, callAmount}
-use Rattle.specification.specs.Check.{checkQuadruple}
+use Rattle.specification.specs.Check.{checkQuadruple, checkOrder}
 use Rattle.specification.specs.Idle.{enlarged, enlargedCosts, lotsTotal, callsTotal, findAndRunIdle}
 use Rattle.specification.specs.Demands.{Readable, RanIdle, Verdicts, GoodOrder}
 
@@ -112,12 +114,24 @@ pub record Request3 : Type 0 where
   pub in-book : (book : List ℕ) → Readable book → (i j : ℕ) → Eligible (problemOf book) i j
       → (costStart book i j + 4 ≤ length book) × (costInBook book i j ≡ costsOf book i j)
 
--- Request 4: rebates from book version 2
+-- Request 4: rebates from book version 2. A row that stands whole and has no bit past the last call, and the first of its costs, lowest call
+-- first, that is outside the range of the version
+pub record FirstOutside (row : List ℕ) (version calls j : ℕ) : Type 0 where
+  pub word-below : rowWord row < 2 ^ calls
+  pub whole : rowSize row ≤ length row
+  pub inside : j < calls
+  pub set : T (bit (rowWord row) j)
+  pub outside : Allows version (heldCost version (rowCost row j)) → ⊥
+  pub first : (k : ℕ) → k < j → T (bit (rowWord row) k) → Allows version (heldCost version (rowCost row k))
+
 pub record Request4 : Type 0 where
   -- "for books 3 means another version than 1 or 2"
   pub refused-3 : (book : List ℕ) → 7 ≤ length book → marked bookMark book ≡ true
       → (bookVersion book ≡ 1 → ⊥) → (bookVersion book ≡ 2 → ⊥) → readBook book ≡ refuses 3 []
   pub two-versions : (book : List ℕ) → Readable book → (bookVersion book ≡ 1) ⊎ (bookVersion book ≡ 2)
+  -- orders and amounts keep version 1
+  pub order-version : (book order : List ℕ) (n : ℕ) → checkOrder book order ≡ gives n → u16At order 3 ≡ 1
+  pub amounts-version : (book amounts : List ℕ) (n : Size) → readAmounts book amounts ≡ gives n → u16At amounts 3 ≡ 1
   -- "In version 2 a cost is signed, two's complement, from -1,000,000 to 1,000,000"
   pub version-2 : (book : List ℕ) → Readable book → bookVersion book ≡ 2 → (i j : ℕ) → Eligible (problemOf book) i j
       → (costsOf book i j ≡ twosComplement (rowCost (rowAt book i) j))
@@ -126,9 +140,13 @@ pub record Request4 : Type 0 where
   pub version-1 : (book : List ℕ) → Readable book → bookVersion book ≡ 1 → (i j : ℕ) → Eligible (problemOf book) i j
       → (costsOf book i j ≡ pos (rowCost (rowAt book i) j)) × (problemOf book .cost i j ≡ rowCost (rowAt book i) j)
       × (rowCost (rowAt book i) j ≤ 1000000)
-  -- "and 7 is given outside that range": its lot and call have such a cost
-  pub seven : (book vs : List ℕ) → readBook book ≡ refuses 7 vs
-      → (i : ℕ) × (j : ℕ) × (vs ≡ i ∷ j ∷ []) × (Allows (bookVersion book) (heldCost (bookVersion book) (rowCost (rowAt book i) j)) → ⊥)
+  -- and another is outside
+  pub version-1-outside : (held : ℕ) → costOutside 1 held ≡ ltb 1000000 held
+  -- "and 7 is given outside that range": by the first such cost of a row,
+  pub seven : (row : List ℕ) (version lot calls j : ℕ) → FirstOutside row version calls j → readRow row version lot calls ≡ refuses 7 (lot ∷ j ∷ [])
+  -- and only by one
+  pub only-seven : (book vs : List ℕ) → readBook book ≡ refuses 7 vs → (i : ℕ) × (j : ℕ) × (vs ≡ i ∷ j ∷ []) × (i < bookLots book)
+      × FirstOutside (rowAt book i) (bookVersion book) (bookCalls book) j
   -- "by one argument over both": under either version the problem's costs are the signed ones with the base added,
   pub lifts : (book : List ℕ) → Readable book → Lifts (costBase (bookVersion book)) (problemOf book) (costsOf book)
   -- so the cost of an allocation is the problem's less the base for each unit,
