@@ -86,7 +86,8 @@ def _whole(path: str, line: int, what: str, text: str, most: int, number: Cause,
     digits = whole[1:] if below else whole
     if not (digits.isascii() and digits.isdigit()):
         raise BadInput(path, line, f"the {what} {text!r} is not a whole number")
-    if len(digits.lstrip("0")) > len(str(most)) or int(digits) > most:
+    digits = digits.lstrip("0") or "0"  # `int` takes no more than some thousands of digits
+    if len(digits) > len(str(most)) or int(digits) > most:
         passed = f"below -{most:,}" if below else f"above {most:,}"
         raise BadInput(path, line, f"the {what} {whole} is {passed} (refusal {number.value})")
     return -int(digits) if below else int(digits)

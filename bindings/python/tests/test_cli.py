@@ -118,7 +118,8 @@ class Command(Case):
             (["1", "-2", "-3", "5"], -14, 2),
             ([" 01", " -02 ", "-3", "5"], -14, 2),
             (["-1000000", "-1000000", "-1000000", "1000000"], -7_000_000, 2),
-            (["-0", "-00", "0", "0"], 0, 1),
+            (["-0", "-00", "0", "0" * 5000], 0, 1),
+            (["1", f"-{'0' * 5000}2", "-3", "5"], -14, 2),
         ]:
             self.write({"pairs.csv": "lot,call,cost\n" + "".join(f"{name},{text}\n" for name, text in zip(names, texts))})
             self.assertEqual(self.run_it("place", *TABLES)[::2], (0, f"full: 9 units, cost {cost}\n"))
