@@ -13,6 +13,7 @@ use Rattle.transport.specs.Signed.{sumℤ}
 use Rattle.transport.specs.Finder.{every, first, takeFrom}
 use Rattle.specification.specs.Reply.{gives, refuses, full, covered}
 use Rattle.specification.specs.Bytes.{u16At, u32At, bookMark, orderMark, amountsMark, readOpening}
+use Rattle.specification.specs.Costs.{twosComplement}
 use Rattle.specification.specs.Book.{readCosts, readRow, readRows, readBook, rowAt, problemOf, costsOf, costs, pairCost}
 use Rattle.specification.specs.OrderFile.{pairs, pairBytes, orderFile}
 use Rattle.specification.specs.Check.{checkPairs, checkQuadruple, inTurn, checkMonge, checkOrder}
@@ -56,6 +57,8 @@ abbrev pub amountsRebate : List ℕ
 amountsRebate = amounts 2 1 (2 ∷ 2 ∷ 2 ∷ [])
 
 pub record RebateCases : Type 0 where
+  -- the highest bit is the sign
+  pub sign-bit : (twosComplement 0x7fffffff ≡ pos 2147483647) × (twosComplement 0x80000000 ≡ negsuc 2147483647)
   -- in version 2 the range ends at -1,000,000 and 1,000,000
   pub lowest : readBook (singleSigned lowestCost) ≡ gives (record { lots = 1; calls = 1 })
   pub too-low : readBook (singleSigned lowCost) ≡ refuses 7 (0 ∷ 0 ∷ [])
@@ -107,6 +110,7 @@ rebate-cases =
     unfold checkPairs checkQuadruple inTurn checkMonge checkOrder tabulate flowOf sum sumℤ times giveAll every first takeFrom ones onesIn in
     unfold foundOrder findBuffer foundToRun findAndRun findAndRunFlow foundToRunIdle findAndRunIdle digits line pairLines textOf printed in
     record {
+      sign-bit = (refl, refl);
       lowest = refl;
       too-low = refl;
       highest = refl;

@@ -10,6 +10,8 @@ use borrow.Author.Tests.{lt-ltb, le-ltb, ltb-false}
 use lib.Dec.{T, ltb, eqb, ltb→lt, lt→ltb}
 use lib.IntN.{ℤ, pos, negsuc, negℤ, _+ℤ_, _-ℤ_, +ℤ-negℤ-cancel}
 use lib.Signed.{ltZ, ltZ-yes, ltZ-no, clashℤ}
+use mir.Syntax.{w32}
+use mir.Val.{toZ}
 use Rattle.transport.proofs.Laws.Tests.{T-ext, or-says}
 use Rattle.transport.proofs.Laws.Integers.{added-of}
 use Rattle.specification.specs.Costs.{costLimit, costTop, twosComplement, heldCost, costBase, costOutside, Allows, liftedCost}
@@ -25,6 +27,13 @@ module _ (held : ℕ) (X : ℤ → Type 0) (low : held < 2147483648 → X (pos h
       by-sign h = rw (le-ltb held 2147483648 h) (by-cases (decLt held 4294967296)
           (λ g. rw (lt-ltb held 4294967296 g) (high h g))
           (λ g. rw (le-ltb held 4294967296 (omega arith)) (beyond (omega arith))))
+
+-- the machine reads 32 bits so too
+pub twos-complement-is : (held : ℕ) → held < 4294967296 → twosComplement held ≡ toZ w32 held
+twos-complement-is held fits = twos-cases held (λ z. z ≡ toZ w32 held)
+    (λ h. rw (lt-ltb held 2147483648 h))
+    (λ h g. rw (le-ltb held 2147483648 h))
+    (λ h. absurd (omega arith))
 
 pub base-within : (version : ℕ) → costBase version ≤ costLimit
 base-within version = elim (eqb version 2) as (λ b. cond b costLimit 0 ≤ costLimit) [ true ↦ omega arith | false ↦ omega arith ]

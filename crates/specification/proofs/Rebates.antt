@@ -21,7 +21,7 @@ use Rattle.specification.specs.Book.{rowWord, rowCost, readRow, bookVers
 use Rattle.specification.specs.Requests.{FirstOutside, Request4}
 use Rattle.specification.proofs.Replies.{by-reply, said-of-given}
 use Rattle.specification.proofs.Bits.{bit-le}
-use Rattle.specification.proofs.Costs.{cost-lifted, cost-range, range-not-outside}
+use Rattle.specification.proofs.Costs.{twos-complement-is, cost-lifted, cost-range, range-not-outside}
 use Rattle.specification.proofs.Rows.{RowRefused, word-cut, bit-outside, costs-cut, cost-too-high, row-says}
 use Rattle.specification.proofs.Rows.{opening-says, opened-first, opened-version}
 use Rattle.specification.proofs.Books.{BookRefused, book-row, book-read, book-refused, cost-allowed, book-lifts}
@@ -101,6 +101,7 @@ request4 = record {
   order-version = λ book order n passes. opened-first (said-of-given (opening-says orderMark 1 order) tt
       (check-passes-only book order n passes .shaped .opening));
   amounts-version = λ book amounts n reads. opened-first (amounts-read book amounts n reads .1 .opened);
+  twos-complement = twos-complement-is;
   version-2 = λ book (n, reads) two i j e. signed-cost book n reads i j e two;
   version-1 = λ book (n, reads) one i j e. unsigned-cost book n reads i j e one;
   version-1-outside = outside-first;

@@ -10,6 +10,8 @@ use lib.Dec.{T, ltb}
 use lib.ListN.{length}
 use lib.IntN.{ℤ, pos, negℤ, _-ℤ_}
 use lib.Signed.{_≤ℤ_}
+use mir.Syntax.{w32}
+use mir.Val.{toZ}
 use Rattle.transport.specs.Problem.{Eligible, units, totalCost, Allocation, MeetsCalls}
 use Rattle.transport.specs.Greedy.{Pair, pair}
 use Rattle.transport.specs.Signed.{signedCost, SignedFit, Lifts}
@@ -132,6 +134,8 @@ pub record Request4 : Type 0 where
   -- orders and amounts keep version 1
   pub order-version : (book order : List ℕ) (n : ℕ) → checkOrder book order ≡ gives n → u16At order 3 ≡ 1
   pub amounts-version : (book amounts : List ℕ) (n : Size) → readAmounts book amounts ≡ gives n → u16At amounts 3 ≡ 1
+  -- "two's complement" is the machine's own reading of 32 bits
+  pub twos-complement : (held : ℕ) → held < 4294967296 → twosComplement held ≡ toZ w32 held
   -- "In version 2 a cost is signed, two's complement, from -1,000,000 to 1,000,000"
   pub version-2 : (book : List ℕ) → Readable book → bookVersion book ≡ 2 → (i j : ℕ) → Eligible (problemOf book) i j
       → (costsOf book i j ≡ twosComplement (rowCost (rowAt book i) j))
