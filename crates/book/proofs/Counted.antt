@@ -3,18 +3,18 @@
 use mathlib.Core.Path.{_≡_, refl, sym, _∙_, ap}
 use mathlib.Core.Bool.{Bool, true, false, cond}
 use mathlib.Core.List.{List}
-use Prim.Native.Nat.{ℕ, zero, suc, _+_, _*_, _-_, _<_}
+use Prim.Native.Nat.{ℕ, zero, suc, _+_, _*_, _<_}
 use native.Mathlib.Nat.{mod-eq-of-lt}
 use native.Mathlib.Numerals.{add-one}
 use native.Mathlib.Omega.{arith}
 use borrow.Author.Tests.{lt-ltb}
 use lib.Count.{ones}
-use lib.ListN.{length, length-drop}
+use lib.ListN.{length}
 use Rattle.transport.specs.Problem.{sum}
 use Rattle.transport.specs.Finder.{size}
 use Rattle.transport.proofs.Laws.Sums.{sum-cong}
 use Rattle.specification.specs.Book.{bit, rowWord, bookLots, bookCalls, rowAt, rowStart, problemOf}
-use Rattle.specification.proofs.Starts.{row-is, start-next, row-inside}
+use Rattle.specification.proofs.Starts.{book-ends}
 use Rattle.book.specs.Pairs.{onesBelow}
 use Rattle.book.proofs.Bits.{ones-below-none, ones-below-set, ones-below-unset}
 use Rattle.book.proofs.Readable.{Read}
@@ -44,19 +44,6 @@ module _ (book : List ℕ) where
         sym (sum-cong (bookCalls book) _ _ (λ j hj. rw (lt-ltb i (bookLots book) hi, lt-ltb j (bookCalls book) hj))
         ∙ bits-sum word (bookCalls book) ∙ ap ones (mod-eq-of-lt (read .known .row i hi .word-below)))
 
-    ends : length book ≡ rowStart book (bookLots book)
-    ends =
-        let last = bookLots book - 1 in
-        let next : last + 1 ≡ bookLots book = omega (arith, read .known .lots-within) in
-        omega (
-          arith,
-          row-inside (read .known) last (omega (arith, read .known .lots-within)),
-          rw next at (start-next book last),
-          read .known .ends,
-          ap length (row-is book (bookLots book)),
-          length-drop (rowStart book (bookLots book)) book,
-        )
-
     pub book-counted : length book ≡ 7 + 4 * n + 4 * size (problemOf book)
     unfolding problemOf
-    book-counted = omega (arith, ends, starts (bookLots book), sum-cong (bookLots book) _ _ row-sum, read .lots-is)
+    book-counted = omega (arith, book-ends (read .known), starts (bookLots book), sum-cong (bookLots book) _ _ row-sum, read .lots-is)

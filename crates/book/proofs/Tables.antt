@@ -88,9 +88,9 @@ module _ (book : List ℕ) {n m : ℕ} (read : Read book n m) where
           rw (at, held-at (k / 32) (k % 32) e) (raised-within (bookVersion book) _ (cost-allowed (read .known) (k / 32) (k % 32) e))
 
   -- the offsets of a lot's costs go by its word: where the last of m is that of a cost with m - 1 before it, all m bits are set
-  pub offsets-packed : 0 < m → m ≤ 32 → Packed (offsetTable book) m
+  pub offsets-packed : m ≤ 32 → Packed (offsetTable book) m
   unfolding problemOf
-  offsets-packed some few = record { side-by-side = side-by-side }
+  offsets-packed few = record { side-by-side = side-by-side }
     where
       side-by-side : (i l : ℕ) → i < 32 → l < m → 0 < entry (offsetTable book) i 0
           → entry (offsetTable book) i (m - 1) ≡ entry (offsetTable book) i 0 + 4 * (m - 1)

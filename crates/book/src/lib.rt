@@ -45,11 +45,11 @@ fn read_rows(rows: &[u8], version: u16, lots: usize, calls: usize) -> Step
     Step::Passes
 }
 
-// Whether a count of lots or calls is 0 or above 32.
+// Whether a count of lots or calls is above 32.
 fn is_outside(count: usize) -> bool
     ensures { λ r. ⌜ r ≡ countOutside count ⌝ }
 {
-    count == 0 || 32 < count
+    32 < count
 }
 
 // n and m of a readable book, or its refusal.

@@ -160,7 +160,7 @@ module _ {book : List ℕ} {i at : ℕ} {before : List ℕ} (lot : AtLot book i 
   pub reached-all : {next : ℕ} {slacks : List ℕ} → Reached book i at 32 next slacks → AtLot book (i + 1) next slacks
   reached-all {next} {slacks} r =
       let last : 32 * i + 32 ≡ 32 * (i + 1) = omega arith in
-      let few = lt-of-lt-of-le (row .word-below) (pow-mono (read .calls-within .1)) in
+      let few = lt-of-lt-of-le (row .word-below) (pow-mono (read .calls-within)) in
       record {
         is-readable = lot .is-readable;
         starts = omega (arith, r .next-is, start-next book i, lot .starts, ap ones (mod-eq-of-lt few));

@@ -72,5 +72,5 @@ searched-within {book} r true room =
     omega (
       arith,
       count-le (enlarged book) (enlarged book .admits),
-      mul-le-mul (problem-within (r .known) .1) few,
+      mul-le-mul (problem-within (r .known) .0) few,
     )

@@ -120,7 +120,7 @@ module _ (book table starts places order : List ℕ) (count n m : ℕ) (s : CanS
   pub walkable : Walkable book table starts order count m
   walkable = record {
     tabled = rw (s .held .offsets) (offsets-tabled book read);
-    packed = rw (s .held .offsets) (offsets-packed book read (omega (arith, read .calls-is, read .known .calls-within)) (s .sized .few-calls));
+    packed = rw (s .held .offsets) (offsets-packed book read (s .sized .few-calls));
     worded = rw (s .held .offsets) (offsets-worded book read starts (s .held .rows));
     few-calls = s .sized .few-calls;
     order-long = s .sized .order-long;

@@ -45,7 +45,7 @@ unfolding findAndRun foundToRun
 counts-fit book amounts flow placed replied o given = by-amounts (readAmounts book amounts) refl
   where
     by-amounts : (r : Reply Size) → readAmounts book amounts ≡ r → (bookLots book ≤ 32) × (bookCalls book ≤ 32)
-    by-amounts (gives n) e = let read = amounts-read book amounts n e .0 in (read .lots-within .1, read .calls-within .1)
+    by-amounts (gives n) e = let read = amounts-read book amounts n e .0 in (read .lots-within, read .calls-within)
     by-amounts (refuses k vs) e = absurd (not-both {k = k} {vs = vs} (sym replied ∙ given) (rw e refl))
 
 drop-zeros : (n k : ℕ) → drop {A = ℕ} k (replicate n 0) ≡ replicate (n - k) 0

@@ -54,9 +54,9 @@ pub record BookCases : Type 0 where
   -- 1 before 2, 2 before 3, 3 before 4: the version is both bytes
   pub under-seven : readBook (88 ∷ []) ≡ refuses 1 []
   pub mark-differs : readBook (amountsMark ++ (2 ∷ 0 ∷ 1 ∷ 1 ∷ [])) ≡ refuses 2 []
-  pub version-not-one : readBook (bookMark ++ (1 ∷ 1 ∷ 0 ∷ 1 ∷ [])) ≡ refuses 3 []
+  pub version-not-one : readBook (bookMark ++ (1 ∷ 1 ∷ 33 ∷ 1 ∷ [])) ≡ refuses 3 []
   -- 4 before 6 (F14: m is 33)
-  pub no-lots : readBook (book 0 1 []) ≡ refuses 4 []
+  pub lots-above-32 : readBook (book 33 1 []) ≡ refuses 4 []
   pub calls-above-32 : readBook (book 1 33 []) ≡ refuses 4 []
   -- 6 for the word, then 5 (F14: bit 2 with m 2), then 6 for the costs, then 7; lot by lot
   pub word-cut : readBook (book 1 2 [] ++ (4 ∷ 0 ∷ 0 ∷ [])) ≡ refuses 6 []
@@ -79,7 +79,7 @@ book-cases = record {
   under-seven = refl;
   mark-differs = refl;
   version-not-one = refl;
-  no-lots = refl;
+  lots-above-32 = refl;
   calls-above-32 = refl;
   word-cut = refl;
   bit-outside = refl;
@@ -96,8 +96,8 @@ book-cases = record {
 
 pub record OtherCases : Type 0 where
   -- the book before an order or amounts
-  pub book-before-order : checkOrder (book 0 1 []) [] ≡ refuses 4 []
-  pub book-before-amounts : readAmounts (book 0 1 []) [] ≡ refuses 4 []
+  pub book-before-order : checkOrder (book 33 1 []) [] ≡ refuses 4 []
+  pub book-before-amounts : readAmounts (book 33 1 []) [] ≡ refuses 4 []
   -- an order: 6 and 8 before 9; then 9 and 10 by place; then 14; then 11 or 12
   pub order-ends-early : checkOrder book1235 (take 8 (orderFile (pair 9 9 ∷ []))) ≡ refuses 6 []
   pub order-bytes-after : checkOrder book1235 (orderFile (pair 9 9 ∷ []) ++ (0 ∷ [])) ≡ refuses 8 []

@@ -1,14 +1,14 @@
--- What reading a book says. A readable book has the opening of a book, 1 to 32 lots and calls, for each lot a whole row whose word has
+-- What reading a book says. A readable book has the opening of a book, at most 32 lots and calls, for each lot a whole row whose word has
 -- no bit past the last call and whose costs are within the range, and nothing after the last row; and a book with all this is readable.
 -- A refusal says what its line of the table says, and is the first that applies in the stated sequence.
 use mathlib.Core.Path.{_≡_, refl, sym, _∙_, ap, subst}
 use mathlib.Core.Logic.{_⊎_, inl, inr, ⊎-elim, _↔_}
-use mathlib.Core.Bool.{Bool, false, not, _&&_, _||_}
+use mathlib.Core.Bool.{Bool, false, _&&_, _||_}
 use mathlib.Core.List.{List, []}
 use Prim.Native.Nat.{ℕ, zero, suc, _+_, _*_, _≤_, _<_}
 use native.Mathlib.Nat.{mul-le-mul}
 use native.Mathlib.Omega.{arith}
-use lib.Dec.{T, ltb, eqb, ltb→lt, nltb→le, eqb→eq, T-not}
+use lib.Dec.{T, ltb, ltb→lt, nltb→le}
 use lib.Count.{ones-le}
 use lib.ListN.{length, length-drop}
 use Rattle.transport.specs.Problem.{Eligible}
@@ -44,32 +44,25 @@ use Rattle.specification.proofs.Rows.{RowRead, RowRefused, row-says, ro
 abbrev RowsRead : List ℕ → ℕ → Type 0
 RowsRead book i = (g : ℕ) → g < i → RowRead (rowAt book g) (bookVersion book) (bookCalls book)
 
--- a count of lots or calls, and one that is 0 or above 32
-abbrev pub Within32 : ℕ → Type 0
-Within32 n = (1 ≤ n) × (n ≤ 32)
-
-abbrev Outside : ℕ → Type 0
-Outside n = (n ≡ 0) ⊎ (32 < n)
-
 -- the opening, n and m: 1 to 4 do not apply
 pub record Headed (book : List ℕ) : Type 0 where
   pub opened : Opened bookMark 2 book
-  pub lots-within : Within32 (bookLots book)
-  pub calls-within : Within32 (bookCalls book)
+  pub lots-within : bookLots book ≤ 32
+  pub calls-within : bookCalls book ≤ 32
 
 -- what a readable book says
 pub record BookRead (book : List ℕ) (n : Size) : Type 0 where
   pub sizes : n ≡ record { lots = bookLots book; calls = bookCalls book }
   pub opened : Opened bookMark 2 book
-  pub lots-within : (1 ≤ bookLots book) × (bookLots book ≤ 32)
-  pub calls-within : (1 ≤ bookCalls book) × (bookCalls book ≤ 32)
+  pub lots-within : bookLots book ≤ 32
+  pub calls-within : bookCalls book ≤ 32
   pub row : (i : ℕ) → i < bookLots book → RowRead (rowAt book i) (bookVersion book) (bookCalls book)
   pub ends : length (rowAt book (bookLots book)) ≡ 0
 
--- 1 to 8 of a book: 4 says that n or m is 0 or above 32, a row's refusal that the lots before it are fine, and 8 that all are
+-- 1 to 8 of a book: 4 says that n or m is above 32, a row's refusal that the lots before it are fine, and 8 that all are
 pub data BookRefused (book : List ℕ) : ℕ → List ℕ → Type 0 where
   book-opening : {k : ℕ} {vs : List ℕ} → OpeningRefused bookMark 2 book k vs → BookRefused book k vs
-  count-outside : Opened bookMark 2 book → Outside (bookLots book) ⊎ Outside (bookCalls book) → BookRefused book 4 []
+  count-outside : Opened bookMark 2 book → (32 < bookLots book) ⊎ (32 < bookCalls book) → BookRefused book 4 []
   book-row : {i k : ℕ} {vs : List ℕ} → Headed book → i < bookLots book → RowsRead book i
       → RowRefused (rowAt book i) (bookVersion book) i (bookCalls book) k vs → BookRefused book k vs
   book-bytes-after : Headed book → RowsRead book (bookLots book) → 0 < length (rowAt book (bookLots book)) → BookRefused book 8 []
@@ -90,28 +83,19 @@ module _ (book : List ℕ) (headed : Headed book) where
       rows-say left (suc lot) (omega arith)
       (λ g h. ⊎-elim (λ (same : g ≡ lot). rw same row) (before g) (below-suc h)))
 
-pub count-within : (n : ℕ) → T (not (countOutside n)) → Within32 n
-count-within n t =
-    let (some, within) = neither-of-or (eqb n 0) (ltb 32 n) t in
-    let positive : (n ≡ 0 → ⊥) = λ e. T-not (eqb n 0) some (rw e tt) in
-    omega (arith, nltb→le 32 n within)
-
-outside-says : (n : ℕ) → T (countOutside n) → Outside n
-outside-says n t = ⊎-elim (λ z. inl (eqb→eq n 0 z)) (λ h. inr (ltb→lt 32 n h)) (or-says (eqb n 0) (ltb 32 n) t)
-
 pub book-says : (book : List ℕ) → Says (BookRead book) (BookRefused book) (readBook book)
 unfolding readBook rowAt
 book-says book =
-    let no-lots : Bool = countOutside (bookLots book) in
-    let no-calls : Bool = countOutside (bookCalls book) in
+    let many-lots : Bool = countOutside (bookLots book) in
+    let many-calls : Bool = countOutside (bookCalls book) in
     says-then _ (opening-says bookMark 2 book) (λ k vs. book-opening) (λ _ opened.
-    says-unless (no-lots || no-calls) 4 _ _
-    (λ t. count-outside opened (⊎-elim (λ n. inl (outside-says _ n)) (λ m. inr (outside-says _ m)) (or-says no-lots no-calls t))) (λ within.
-    let (lots, calls) = neither-of-or no-lots no-calls within in
+    says-unless (many-lots || many-calls) 4 _ _
+    (λ t. count-outside opened (⊎-elim (λ n. inl (ltb→lt _ _ n)) (λ m. inr (ltb→lt _ _ m)) (or-says many-lots many-calls t))) (λ within.
+    let (lots, calls) = neither-of-or many-lots many-calls within in
     let headed : Headed book = record {
       opened = opened;
-      lots-within = count-within (bookLots book) lots;
-      calls-within = count-within (bookCalls book) calls;
+      lots-within = nltb→le _ _ lots;
+      calls-within = nltb→le _ _ calls;
     } in
     says-then _ (rows-say book headed (bookLots book) 0 (omega arith) (λ g none. absurd (omega arith))) (λ k vs q. q) (λ _ (rows, ends).
     giving (record {
@@ -130,10 +114,6 @@ book-read book n e = said-of-given (book-says book) n e
 pub book-refused : (book : List ℕ) (k : ℕ) (vs : List ℕ) → readBook book ≡ refuses k vs → BookRefused book k vs
 book-refused book k vs e = said-of-refused (book-says book) k vs e
 
-not-outside : {n : ℕ} → Within32 n → Outside n → ⊥
-not-outside within (inl none) = omega arith
-not-outside within (inr many) = omega arith
-
 -- none of these applies to a book that says what a readable one says: it is read
 pub book-reads : (book : List ℕ) (n : Size) → BookRead book n → readBook book ≡ gives n
 book-reads book n read =
@@ -142,8 +122,8 @@ book-reads book n read =
   where
     never : {k : ℕ} {vs : List ℕ} → BookRefused book k vs → ⊥
     never (book-opening q) = opened-not-refused (read .opened) q
-    never (count-outside opened (inl n)) = not-outside (read .lots-within) n
-    never (count-outside opened (inr m)) = not-outside (read .calls-within) m
+    never (count-outside opened (inl n)) = omega (arith, read .lots-within)
+    never (count-outside opened (inr m)) = omega (arith, read .calls-within)
     never (book-row headed h before q) = row-read-not-refused (read .row _ h) q
     never (book-bytes-after headed rows h) = omega (arith, read .ends)
 
@@ -177,14 +157,14 @@ module _ {book : List ℕ} {n : Size} (read : BookRead book n) where
   unfolding rowAt
   book-length = omega (arith, length-drop 7 book, read .opened .seven, rows-length (bookLots book) 0 (omega arith), read .lots-within)
 
-  -- its problem has 1 to 32 lots and calls
-  pub problem-within : (1 ≤ problemOf book .lots) × (problemOf book .lots ≤ 32) × (1 ≤ problemOf book .calls) × (problemOf book .calls ≤ 32)
+  -- its problem has at most 32 lots and calls
+  pub problem-within : (problemOf book .lots ≤ 32) × (problemOf book .calls ≤ 32)
   unfolding problemOf
-  problem-within = omega (arith, read .lots-within, read .calls-within)
+  problem-within = (read .lots-within, read .calls-within)
 
   -- at most 1,024 pairs are eligible
   pub size-within : size (problemOf book) ≤ 1024
-  size-within = omega (arith, count-le (problemOf book) (problemOf book .admits), mul-le-mul (problem-within .1) (problem-within .3))
+  size-within = omega (arith, count-le (problemOf book) (problemOf book .admits), mul-le-mul (problem-within .0) (problem-within .1))
 
   -- lots and calls are below 32
   pub pair-within : (i j : ℕ) → Eligible (problemOf book) i j → (i < 32) × (j < 32)

@@ -80,8 +80,8 @@ allocation-within book amounts n read amounts-are s allocation =
     let b : ℕ → ℕ = callAmount book amounts in
     let base : ℕ = costBase (bookVersion book) in
     let x : ℕ → ℕ → ℕ = s .given in
-    let few = units-within P (problem-within read .1) _ (lifted-within read) a b within x allocation in
-    let low = total-cost-within P (problem-within read .1) _ (lifted-within read) a b within x allocation in
+    let few = units-within P (problem-within read .0) _ (lifted-within read) a b within x allocation in
+    let low = total-cost-within P (problem-within read .0) _ (lifted-within read) a b within x allocation in
     let lifted : base * units P x ≤ costLimit * (32 * amountLimit) = mul-le-mul (base-within (bookVersion book)) few in
     rw (cost-signed (book-lifts read) x (allocation .eligible-only)) (
       few,
@@ -135,7 +135,7 @@ pair-cost-within book lot call cost e =
 
 -- 1,024 flow entries are enough for every book: the printing program never meets 17
 cells-within : {book : List ℕ} {n : Size} → BookRead book n → problemOf book .lots * problemOf book .calls ≤ 1024
-cells-within read = mul-le-mul (problem-within read .1) (problem-within read .3)
+cells-within read = mul-le-mul (problem-within read .0) (problem-within read .1)
 
 pub printing-not-17 : (book amounts : List ℕ) → findAndRun book amounts (replicate 1024 0) ≡ refuses 17 [] → ⊥
 printing-not-17 book amounts e = by-cause (said-of-refused (find-and-run-says book amounts (replicate 1024 0)) 17 [] e)

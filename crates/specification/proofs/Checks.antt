@@ -127,7 +127,7 @@ module _ (book order : List ℕ) where
 -- each is a line of the table: for the book or the order's file with a number up to 8, else up to 14
 files-in-table : {book order : List ℕ} {k : ℕ} {vs : List ℕ} → FilesRefused book order k vs → UpTo 8 k vs
 files-in-table (of-book q e) = book-in-table q
-files-in-table (of-opening q e) = opening-in-table q
+files-in-table (of-opening q e) = let (line, low) = opening-in-table q in (line, omega arith)
 files-in-table (ends-early h) = ((refusal.EndsEarly, refl, refl), omega arith)
 files-in-table (bytes-after h) = ((refusal.BytesAfter, refl, refl), omega arith)
 

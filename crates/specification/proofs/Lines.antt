@@ -12,12 +12,13 @@ use Rattle.specification.proofs.Books.{BookRefused, book-opening, count
 use Rattle.specification.proofs.AmountsFiles.{AmountsRefused, amounts-opening, counts-differ, amounts-end-early}
 use Rattle.specification.proofs.AmountsFiles.{amounts-bytes-after, amount-too-high, AmountsOrBookRefused, amounts-book, amounts-own}
 
--- a book: with a number up to 8
-pub opening-in-table : {mark : List ℕ} {newest : ℕ} {s : List ℕ} {k : ℕ} {vs : List ℕ} → OpeningRefused mark newest s k vs → UpTo 8 k vs
+-- an opening: with a number up to 3
+pub opening-in-table : {mark : List ℕ} {newest : ℕ} {s : List ℕ} {k : ℕ} {vs : List ℕ} → OpeningRefused mark newest s k vs → UpTo 3 k vs
 opening-in-table (under-seven h) = ((refusal.UnderSeven, refl, refl), omega arith)
 opening-in-table (mark-differs h differs) = ((refusal.MarkDiffers, refl, refl), omega arith)
 opening-in-table (other-version h stands other) = ((refusal.VersionNotOne, refl, refl), omega arith)
 
+-- a book: up to 8
 row-in-table : {row : List ℕ} {version lot calls k : ℕ} {vs : List ℕ} → RowRefused row version lot calls k vs → UpTo 8 k vs
 row-in-table (word-cut h) = ((refusal.EndsEarly, refl, refl), omega arith)
 row-in-table {lot = lot} (bit-outside h outside set) = ((refusal.BitOutside (record { 0 = lot }), refl, refl), omega arith)
@@ -26,7 +27,7 @@ row-in-table {lot = lot} (cost-too-high {j} below whole lower h set high) =
     ((refusal.CostTooHigh (record { 0 = lot }) (record { 0 = j }), refl, refl), omega arith)
 
 pub book-in-table : {book : List ℕ} {k : ℕ} {vs : List ℕ} → BookRefused book k vs → UpTo 8 k vs
-book-in-table (book-opening q) = opening-in-table q
+book-in-table (book-opening q) = let (line, low) = opening-in-table q in (line, omega arith)
 book-in-table (count-outside opened outside) = ((refusal.CountOutside, refl, refl), omega arith)
 book-in-table (book-row headed h before q) = row-in-table q
 book-in-table (book-bytes-after headed rows h) = ((refusal.BytesAfter, refl, refl), omega arith)

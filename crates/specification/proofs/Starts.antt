@@ -37,6 +37,21 @@ module _ {book : List ℕ} {n : Size} (read : BookRead book n) where
       let long : length (rowAt book i) ≡ length book - rowStart book i = ap length (row-is book i) ∙ length-drop (rowStart book i) book in
       omega (arith, read .row i h .costs-whole)
 
+  -- and the book ends where the last row ends
+  start-inside : (i : ℕ) → i ≤ bookLots book → rowStart book i ≤ length book
+  unfolding rowStart
+  start-inside zero h = read .opened .seven
+  start-inside (suc i) h = row-inside i (omega arith)
+
+  pub book-ends : length book ≡ rowStart book (bookLots book)
+  book-ends = omega (
+    arith,
+    start-inside (bookLots book) (omega arith),
+    read .ends,
+    ap length (row-is book (bookLots book)),
+    length-drop (rowStart book (bookLots book)) book,
+  )
+
   pub cost-inside : (i j : ℕ) → Eligible (problemOf book) i j → costStart book i j + 4 ≤ length book
   unfolding problemOf
   cost-inside i j (hi, hj, t) =

@@ -42,7 +42,8 @@ readCosts row version lot (suc left) j = do
   _ ← refuseIf (bit (rowWord row) j && costOutside version (rowCost row j)) 7 (lot ∷ j ∷ [])
   readCosts row version lot left (suc j)
 
--- "6 for the word, 5, 6 for the costs, 7 for each cost"; a bit m or higher is set where the word is 2 ^ m or more
+-- "6 for the word, 5, 6 for the costs, 7 for each cost"; a bit m or higher is set where the word is 2 ^ m or more,
+-- so "each word must be 0 if there are no calls" (document 02, request 5)
 unfoldable pub readRow : List ℕ → ℕ → ℕ → ℕ → Reply (Unit {0})
 readRow row version lot calls = do
   _ ← refuseIf (ltb (length row) 4) 6 []
@@ -69,9 +70,9 @@ bookLots book = byteAt book 5
 abbrev pub bookCalls : List ℕ → ℕ
 bookCalls book = byteAt book 6
 
--- a count "is 0 or above 32"
+-- "4 is only for counts above 32" (document 02, request 5): "A book with n or m equal to 0 is now read"
 abbrev pub countOutside : ℕ → Bool
-countOutside n = eqb n 0 || ltb 32 n
+countOutside n = ltb 32 n
 
 -- "Book: 1, 2, 3, 4; then lot by lot .. then 8"; the reply is n and m
 unfoldable pub readBook : List ℕ → Reply Size

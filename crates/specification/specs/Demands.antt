@@ -73,12 +73,13 @@ pub record Demand1 : Type 0 where
 abbrev pub Readable : List ℕ → Type 0
 Readable book = (n : Size) × (readBook book ≡ gives n)
 
--- the limits of document 01, Words, with those of the costs by the version (document 02, request 4), and "Largest book: 4,231 bytes"
+-- the limits of document 01, Words, with those of the costs by the version (document 02, request 4) and n and m from 0 (request 5), and
+-- "Largest book: 4,231 bytes"
 pub record BookLimits (book : List ℕ) (n : Size) : Type 0 where
   pub its-lots : problemOf book .lots ≡ n .lots
   pub its-calls : problemOf book .calls ≡ n .calls
-  pub lots : (1 ≤ n .lots) × (n .lots ≤ 32)
-  pub calls : (1 ≤ n .calls) × (n .calls ≤ 32)
+  pub lots : n .lots ≤ 32
+  pub calls : n .calls ≤ 32
   pub costs : (i j : ℕ) → Eligible (problemOf book) i j → Allows (bookVersion book) (costsOf book i j)
   pub pairs : size (problemOf book) ≤ 1024
   pub bytes : length book ≤ largestBook

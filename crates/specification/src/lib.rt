@@ -21,7 +21,7 @@ pub enum Refusal {
     MarkDiffers,
     // 3: version not 1; of a book, "another version than 1 or 2" (document 02, request 4)
     VersionNotOne,
-    // 4: book's n or m is 0 or above 32
+    // 4: book's n or m is above 32 (document 02, request 5: 0 is read)
     CountOutside,
     // 5: eligibility bit m or higher set; lot
     BitOutside(Lot),

@@ -1,17 +1,10 @@
--- `book::is_outside` meets its contract: each test that fails or passes decides its half of `countOutside`.
-use borrow.Author.Tests.{eq-eqb, ne-eqb}
+-- `book::is_outside` meets its contract: its test is `countOutside`.
+use mathlib.Core.Path.{refl}
 use Rattle.book.proofs.is_outside.Statement.{statement}
 use Rattle.book.proofs.is_outside.Tie as tie
-
-returns : tie.Need-returns
-returns c = simp (eq-eqb _ _ (c .if1 .taken))
-
-returns-2 : tie.Need-returns-2
-returns-2 c = simp (ne-eqb _ _ (c .if1 .left))
 
 pub is-outside-spec : {M : Type 1} → statement M
 is-outside-spec =
     tie.close
     (tie.spec
-    returns
-    returns-2)
+    (λ c. refl))

@@ -5,13 +5,13 @@ use mathlib.Core.Bool.{Bool}
 use mathlib.Core.List.{List}
 use Prim.Native.Nat.{ℕ, _≤_}
 use native.Mathlib.Omega.{arith}
+use lib.Dec.{nltb→le}
 use lib.ListN.{length, drop}
 use Rattle.specification.specs.Reply.{gives, _>>=_}
 use Rattle.specification.specs.Bytes.{bookMark, readOpening}
 use Rattle.specification.specs.Book.{readRows, bookVersion, bookLots, bookCalls, countOutside, readBook}
 use Rattle.specification.proofs.Replies.{said-of-given}
 use Rattle.specification.proofs.Rows.{opening-says}
-use Rattle.specification.proofs.Books.{count-within}
 use Rattle.files.specs.Files.{statedStep}
 use Rattle.files.proofs.Parts.{rest-is}
 use Rattle.book.proofs.read_book.Statement.{statement}
@@ -43,7 +43,7 @@ long c = said-of-given (opening-says bookMark 2 _) tt (opens (opened (lots-read 
 
 -- and there are at most 32 calls
 few : (c : tie.Else2) → bookCalls (book (opened (lots-read (c .before)))) ≤ 32
-few c = count-within (bookCalls (book (opened (lots-read (c .before))))) (rw (calls-outside (c .before) (c .if2 .left)) tt) .1
+few c = nltb→le _ _ (rw (calls-outside (c .before) (c .if2 .left)) tt)
 
 returns : tie.Need-returns
 unfolding readBook
