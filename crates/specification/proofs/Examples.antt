@@ -1,10 +1,11 @@
--- The demands' hypotheses are met, by the books and amounts of F1, F8, F9 and F10, and those of requests 2 to 4 by computed cases: they speak
+-- The demands' hypotheses are met, by the books and amounts of F1, F8, F9 and F10, and those of requests 2 to 5 by computed cases: they speak
 -- of something.
 use mathlib.Core.Path.{_≡_, refl, sym, _∙_}
-use mathlib.Core.Logic.{inr, ⊎-elim}
+use mathlib.Core.Logic.{inl, inr, ⊎-elim}
 use mathlib.Core.List.{List, [], _∷_}
 use Prim.Native.Nat.{ℕ, _≤_}
 use native.Mathlib.Omega.{arith}
+use borrow.Author.Tests.{le-ltb}
 use lib.Count.{ones, onesIn}
 use lib.Dec.{lit<, lit≤}
 use lib.IntN.{pos, negsuc}
@@ -24,14 +25,17 @@ use Rattle.specification.specs.Find.{orderLength, findOrder}
 use Rattle.specification.specs.Demands.{Readable, Passing, GoodOrder, returned}
 use Rattle.specification.specs.Idle.{enlarged, enlargedCosts}
 use Rattle.specification.specs.Requests.{SomeMeetsCalls, Allowed, IdleRun, ThreeEligible, FirstOutside}
-use Rattle.specification.specs.Examples.{amounts, book1235, amounts5436, bookGap, bookEmpty, bookDiagonal, known-examples}
+use Rattle.specification.specs.EmptyDesk.{EmptyDesk, EmptyAmounts, EmptyOpening, NoBits}
+use Rattle.specification.specs.Examples.{book, amounts, book1235, amounts5436, bookGap, bookEmpty, bookDiagonal, known-examples}
 use Rattle.specification.proofs.AllCases.{bookCorners, bookSpare, amountsSpare, idle-cases, bookSteps}
 use Rattle.specification.proofs.AllRebates.{singleSigned, lowCost, bookRebates, bookRebate, amountsRebate, rebate-cases}
+use Rattle.specification.proofs.AllEmptyDesks.{noCalls, noLots, stock, empty-cases}
 use Rattle.specification.proofs.Replies.{not-both}
 use Rattle.specification.proofs.Books.{admitted-inside}
 use Rattle.specification.proofs.Verdicts.{short-not-full, short-not-covered}
 use Rattle.specification.proofs.IdleRuns.{request2}
 use Rattle.specification.proofs.Demands.{demand2, demand3}
+use Rattle.specification.proofs.EmptyDesks.{request5}
 
 -- the buffers of the examples
 abbrev orderBuffer : List ℕ
@@ -54,7 +58,7 @@ amounts8 = amounts 2 2 (2 ∷ 0 ∷ 1 ∷ 0 ∷ [])
 abbrev amounts10 : List ℕ
 amounts10 = amounts 1 1 (1 ∷ 1 ∷ [])
 
--- what demands 2 and 3 and requests 2 to 4 assume, each met
+-- what demands 2 and 3 and requests 2 to 5 assume, each met
 pub record NotVacuous : Type 0 where
   -- a readable book, a buffer long enough, and an order returned
   pub readable : Readable book1235
@@ -96,6 +100,13 @@ pub record NotVacuous : Type 0 where
   pub idle-below-zero : SomeMeetsCalls bookRebate amountsRebate
       × ((x : ℕ → ℕ → ℕ) → MeetsCalls (problemOf bookRebate) (lotAmount amountsRebate) (callAmount bookRebate amountsRebate) x
       → negsuc 5 ≤ℤ signedCost (problemOf bookRebate) (costsOf bookRebate) x)
+  -- a desk without lots, and one without calls and with its amounts; files that open so and have, in turn, each word 0, the second not, and
+  -- the first row alone
+  pub no-lots-yet : EmptyDesk (noLots 32) (record { lots = 0; calls = 32 })
+  pub no-calls-yet : EmptyAmounts (noCalls 2) stock (record { lots = 2; calls = 0 })
+  pub each-word-0 : EmptyOpening (noCalls 2) × NoBits (noCalls 2) 2
+  pub second-word-1 : EmptyOpening (book 2 0 (0 ∷ 1 ∷ [])) × NoBits (book 2 0 (0 ∷ 1 ∷ [])) 1
+  pub second-row-missing : EmptyOpening (book 2 0 (0 ∷ [])) × NoBits (book 2 0 (0 ∷ [])) 1
 
 length-1235 : orderLength book1235 ≡ 15
 unfolding problemOf rowAt u16At u32At sum ones
@@ -191,6 +202,15 @@ idle-allowed = record {
   not-17 = omega arith;
 }
 
+-- a book of two lots and no calls whose first word is 0, and one more if it stands
+opens-empty : (rows : List ℕ) → EmptyOpening (book 2 0 rows)
+unfolding u16At readOpening
+opens-empty rows = record { opens = rw (le-ltb (length (book 2 0 rows)) 7 (omega arith)) refl; lots-few = lit≤ tt; calls-few = lit≤ tt; empty = inr refl }
+
+first-0 : (rows : List ℕ) → NoBits (book 2 0 (0 ∷ rows)) 1
+unfolding u16At u32At
+first-0 rows = record { stand = omega arith; are-0 = λ i h. let first : i ≡ 0 = omega arith in rw first refl }
+
 pub not-vacuous : NotVacuous
 not-vacuous =
     let found = known-examples .f1-found .0 in
@@ -231,4 +251,9 @@ not-vacuous =
       first-outside = low-first;
       least-below-zero = (rebates .verdicts .full-iff .0 refl, rebates .least-cost);
       idle-below-zero = (idle-rebate .covered-by-totals .0 refl .1, idle-rebate .least-cost);
+      no-lots-yet = (empty-cases .reads-no-lots, inl refl);
+      no-calls-yet = (empty-cases .amounts-read, inr refl);
+      each-word-0 = (opens-empty _, request5 .reads (noCalls 2) (opens-empty _) .0 (_, empty-cases .reads-no-calls) .0);
+      second-word-1 = (opens-empty _, first-0 _);
+      second-row-missing = (opens-empty _, first-0 _);
     }

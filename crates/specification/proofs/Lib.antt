@@ -1,6 +1,7 @@
 -- What is proved of document 01's definitions: what each reply means, and the demands.
 pub mod AllCases  -- each number of the table on an input that shows it, computed
 pub mod AllRebates  -- costs below zero (request 4), computed
+pub mod AllEmptyDesks  -- desks with no lots or no calls (request 5), computed
 pub mod Replies  -- what a reply means is read off its steps
 pub mod Numbers  -- little-endian numbers of a part of a file
 pub mod Bits  -- set bits of a word, and the book's test for 5
@@ -25,6 +26,9 @@ pub mod FindRuns  -- finding and running in one call is the run by the order fou
 pub mod IdleRuns  -- what finding and running with an idle call says
 pub mod Bounds  -- units and cost fit 64 bits
 pub mod Rebates  -- what request 4 promises beside the demands
+pub mod EmptyBooks  -- reading a book with no lots or no calls, and its amounts
+pub mod NothingPlaced  -- where no pair is eligible, every run has one outcome
 pub mod Demands  -- the three demands, proved
+pub mod EmptyDesks  -- what request 5 promises beside the demands
 pub mod Examples  -- the demands speak of something: F1 and F9
 pub mod Stated  -- two answers that state the same are the same

@@ -34,6 +34,12 @@ unfolding sumℤ
 sumℤ-cong zero f g h = refl
 sumℤ-cong (suc n) f g h = ap₂ _+ℤ_ (sumℤ-cong n f g (λ i l. h i (omega arith))) (h n (omega arith))
 
+-- terms that are all 0
+pub sumℤ-zero : (n : ℕ) (f : ℕ → ℤ) → ((i : ℕ) → i < n → f i ≡ pos 0) → sumℤ n f ≡ pos 0
+unfolding sumℤ
+sumℤ-zero zero f h = refl
+sumℤ-zero (suc n) f h = rw (sumℤ-zero n f (λ i l. h i (omega arith)), h n (omega arith)) refl
+
 -- m is z with k added, said without signs: where z is a, and where z is -(a + 1)
 abbrev pub Added : ℤ → ℕ → ℕ → Type 0
 Added (pos a) k m = a + k ≡ m
