@@ -202,7 +202,7 @@ idle-allowed = record {
   not-17 = omega arith;
 }
 
--- a book of two lots and no calls whose first word is 0, and one more if it stands
+-- two lots and no calls: the opening, and a first word of 0
 opens-empty : (rows : List ℕ) → EmptyOpening (book 2 0 rows)
 unfolding u16At readOpening
 opens-empty rows = record { opens = rw (le-ltb (length (book 2 0 rows)) 7 (omega arith)) refl; lots-few = lit≤ tt; calls-few = lit≤ tt; empty = inr refl }
@@ -253,7 +253,7 @@ not-vacuous =
       idle-below-zero = (idle-rebate .covered-by-totals .0 refl .1, idle-rebate .least-cost);
       no-lots-yet = (empty-cases .reads-no-lots, inl refl);
       no-calls-yet = (empty-cases .amounts-read, inr refl);
-      each-word-0 = (opens-empty _, request5 .reads (noCalls 2) (opens-empty _) .0 (_, empty-cases .reads-no-calls) .0);
-      second-word-1 = (opens-empty _, first-0 _);
-      second-row-missing = (opens-empty _, first-0 _);
+      each-word-0 = (opens-empty (0 ∷ 0 ∷ []), request5 .reads (noCalls 2) (opens-empty (0 ∷ 0 ∷ [])) .0 (_, empty-cases .reads-no-calls) .0);
+      second-word-1 = (opens-empty (0 ∷ 1 ∷ []), first-0 (1 ∷ []));
+      second-row-missing = (opens-empty (0 ∷ []), first-0 []);
     }
