@@ -18,16 +18,20 @@
  * Files are byte strings that the caller holds: a pointer and a length. They open with a mark of three letters, the version in two bytes,
  * and two bytes of counts; integers are little-endian, the lowest byte first.
  *   book     "CLB" 1 0 n m; for each of n lots a 32-bit word, bit j set if call j is eligible, and a 32-bit cost for each set bit,
- *            lowest bit first. n and m are 1 to 32, a cost is 0 to 1,000,000 hundredths of a cent per unit. Version 2, "CLB" 2 0 n m,
+ *            lowest bit first. n and m are 0 to 32, a cost is 0 to 1,000,000 hundredths of a cent per unit. Version 2, "CLB" 2 0 n m,
  *            differs in the costs: they are signed, two's complement, -1,000,000 to 1,000,000, below 0 where a rebate is paid.
  *   amounts  "CLA" 1 0 n m; n lot amounts and m call amounts, 32 bits each, 0 to 1,000,000,000 units.
  *   order    "CLO" 1 0, a 16-bit count of pairs; for each pair a byte for its lot and one for its call. Lots and calls count from 0.
+ * A desk may have no lots yet, or no calls: n or m is then 0. Without lots the book is its first 7 bytes, without calls every word is 0.
+ * The order has no pairs, 7 bytes, and a flow of 0 entries is enough. A run places 0 units at cost 0: Full if all amounts are 0 or there
+ * are none, else Short without lots, Covered without calls.
  *
  * What holds for every call
  *   - Any bytes and any lengths may be handed over. The call returns; it accepts, or refuses by a number from 1 to 19.
  *   - What is passed by `const` pointer is read and never written. A buffer is written only where the call accepts; a refusal leaves it
  *     as it was. Nothing outside the stated lengths is read or written, and no pointer is kept.
- *   - A pointer may be any non-null pointer where its length is 0. A buffer must not overlap another argument.
+ *   - A pointer must not be null, even where its length is 0, as for a flow of 0 entries; any other pointer may then be handed over. A
+ *     buffer must not overlap another argument.
  *   - No heap, no state, no input or output, no signal, no locale: calls on separate buffers may run at once in any number of threads.
  *   - Stack: at most PLACER_STACK bytes.
  *   - Several refusals can apply; the one reported is the first in this sequence: the book's (1, 2, 3, 4; then lot by lot 6, 5, 6, 7;
@@ -69,7 +73,7 @@ enum placer_number {
     PLACER_UNDER_SEVEN = 1,         /* a file is under 7 bytes */
     PLACER_MARK_DIFFERS = 2,        /* a file does not open with its mark */
     PLACER_VERSION_NOT_ONE = 3,     /* a file's version is not 1; of a book: neither 1 nor 2 */
-    PLACER_COUNT_OUTSIDE = 4,       /* the book's n or m is 0 or above 32 */
+    PLACER_COUNT_OUTSIDE = 4,       /* the book's n or m is above 32 */
     PLACER_BIT_OUTSIDE = 5,         /* an eligibility bit m or higher is set [lot] */
     PLACER_ENDS_EARLY = 6,          /* a file ends before its last field */
     PLACER_COST_TOO_HIGH = 7,       /* a cost is above 1,000,000 or, in a book of version 2, below -1,000,000 [lot, call] */
@@ -193,7 +197,7 @@ static inline const char *placer_sentence(uint32_t number)
         "a file is under 7 bytes",
         "a file does not open with its mark",
         "a file's version is not 1 (of a book: neither 1 nor 2)",
-        "the book's count of lots or calls is 0 or above 32",
+        "the book's count of lots or calls is above 32",
         "an eligibility bit is set for a call that the book does not have",
         "a file ends before its last field",
         "a cost is above 1,000,000 (in a book of version 2: or below -1,000,000)",
