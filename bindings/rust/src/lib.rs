@@ -5,7 +5,9 @@
 //! a run meets every call whenever some allocation does; where some allocation meets everything, so does the run, and none that does costs
 //! less. Both hold whatever the *amounts*. With stock to spare [`find_and_run_idle`] makes the cheapest choice of what stays in the box.
 //!
-//! The three files are byte slices, laid out as `include/placer.h` says; a book of version 2 may have costs below 0, which are rebates.
+//! The three files are byte slices, laid out as `include/placer.h` says; a book of version 2 may have costs below 0, which are rebates. A
+//! desk may have no lots yet, or no calls: its book is read like any other, and its order has no pairs.
+//!
 //! Every function takes any bytes: it accepts, or refuses by the first [`Refusal`] in the published sequence. A buffer is written only
 //! where the call accepts. Nothing is allocated or kept, nothing panics, and calls may run in any number of threads. A call takes at most
 //! 24 KiB of stack. For x86-64 Linux.
@@ -37,6 +39,8 @@
 
 mod refusal;
 mod sys;
+#[cfg(test)]
+mod tests;
 
 pub use refusal::Refusal;
 use sys::Reply;
@@ -55,9 +59,9 @@ pub const FLOW_MAX: usize = 1024;
 /// The counts of a book.
 #[derive(Clone, Copy, Debug, PartialEq, Eq, Hash)]
 pub struct Size {
-    /// Lots, 1 to 32.
+    /// Lots, 0 to 32.
     pub lots: usize,
-    /// Calls, 1 to 32.
+    /// Calls, 0 to 32.
     pub calls: usize,
 }
 
@@ -129,6 +133,9 @@ fn placed(reply: Reply) -> Result<Placed, Refusal> {
 /// let one = b"CLB\x01\0\x01\x01\0\0\0\0";
 /// assert_eq!(placer::read_book(one), Ok(placer::Size { lots: 1, calls: 1 }));
 /// assert_eq!(placer::read_book(&one[..9]), Err(placer::Refusal::EndsEarly));
+///
+/// // A desk with no lots yet: no rows.
+/// assert_eq!(placer::read_book(b"CLB\x01\0\0\x02"), Ok(placer::Size { lots: 0, calls: 2 }));
 /// ```
 pub fn read_book(book: &[u8]) -> Result<Size, Refusal> {
     // SAFETY: here and below, each pointer is that of a slice and goes with its length; what is written is borrowed mutably.
@@ -226,6 +233,19 @@ pub fn run_order(book: &[u8], order: &[u8], amounts: &[u8], flow: &mut [u32]) ->
 ///
 /// # Errors
 /// The refusals of [`read_amounts`], then 17, then 13; the flow is then unchanged.
+///
+/// ```
+/// use placer::{find_and_run, Verdict};
+///
+/// // A desk with no calls yet, and a lot of 5 units: a flow of no entries is enough.
+/// let placed = find_and_run(b"CLB\x01\0\x01\0\0\0\0\0", b"CLA\x01\0\x01\0\x05\0\0\0", &mut [])?;
+/// assert_eq!((placed.verdict, placed.units, placed.cost), (Verdict::Covered, 0, 0));
+///
+/// // No lots yet, and a call for 5.
+/// let placed = find_and_run(b"CLB\x01\0\0\x01", b"CLA\x01\0\0\x01\x05\0\0\0", &mut [])?;
+/// assert_eq!((placed.verdict, placed.units, placed.cost), (Verdict::Short, 0, 0));
+/// # Ok::<(), placer::Refusal>(())
+/// ```
 pub fn find_and_run(book: &[u8], amounts: &[u8], flow: &mut [u32]) -> Result<Placed, Refusal> {
     let (b, a) = (book.as_ptr(), amounts.as_ptr());
     placed(unsafe { sys::placer_find_and_run(b, book.len(), a, amounts.len(), flow.as_mut_ptr(), flow.len()) })
@@ -266,108 +286,4 @@ pub fn find_and_run(book: &[u8], amounts: &[u8], flow: &mut [u32]) -> Result<Pla
 pub fn find_and_run_idle(book: &[u8], amounts: &[u8], flow: &mut [u32]) -> Result<Placed, Refusal> {
     let (b, a) = (book.as_ptr(), amounts.as_ptr());
     placed(unsafe { sys::placer_find_and_run_idle(b, book.len(), a, amounts.len(), flow.as_mut_ptr(), flow.len()) })
-}
-
-#[cfg(test)]
-mod tests {
-    use super::*;
-
-    #[test]
-    fn verdicts_by_number() {
-        let told = |verdict| placed(Reply { number: 0, verdict, values: [0; 4] }).unwrap().verdict;
-        assert_eq!([1, 2, 3].map(told), [Verdict::Full, Verdict::Short, Verdict::Covered]);
-        // a number that this crate does not know is never told as every call met
-        assert_eq!([0, 4, u32::MAX].map(told), [Verdict::Short; 3]);
-    }
-
-    #[test]
-    fn refusals_by_number() {
-        for number in 1..=19 {
-            assert_eq!(Refusal::of(Reply { number, verdict: 0, values: [0; 4] }).number(), number);
-        }
-    }
-
-    /// The book of `calls` calls with one lot of `has` units that is eligible for none, its calls wanting `wants` in all.
-    fn bare(calls: u8, has: u8, wants: u8) -> ([u8; 11], [u8; AMOUNTS_MAX], usize) {
-        let mut book = *b"CLB\x01\0\x01\0\0\0\0\0";
-        let mut amounts = [0; AMOUNTS_MAX];
-        book[6] = calls;
-        amounts[..8].copy_from_slice(&[b'C', b'L', b'A', 1, 0, 1, calls, has]);
-        amounts[11] = wants;
-        (book, amounts, 7 + 4 * (1 + calls as usize))
-    }
-
-    #[test]
-    fn idle_refused_in_turn() {
-        let idle = |(book, amounts, len): ([u8; 11], [u8; AMOUNTS_MAX], usize), entries| {
-            let mut flow = [8; 32];
-            let told = find_and_run_idle(&book, &amounts[..len], &mut flow[..entries]);
-            assert!(told.is_ok() || flow == [8; 32]);
-            told.map(|placed| (placed.verdict, placed.units, placed.cost))
-        };
-        // 18 before 19, 19 before 17, 17 by the book's own calls
-        assert_eq!(idle(bare(32, 0, 1), 0), Err(Refusal::CallsExceedLots));
-        assert_eq!(idle(bare(32, 1, 1), 0), Err(Refusal::NoIdleCall));
-        assert_eq!(idle(bare(31, 1, 0), 30), Err(Refusal::BufferTooShort));
-        assert_eq!(idle(bare(31, 1, 0), 31), Ok((Verdict::Covered, 0, 0)));
-        assert_eq!(idle(bare(31, 1, 1), 31), Ok((Verdict::Short, 0, 0)));
-    }
-
-    #[test]
-    fn idle_has_no_order() {
-        // rows - 1 / 0 0 / 1 -: the book has an order, the enlarged book has none
-        let book = b"CLB\x01\0\x03\x02\x02\0\0\0\x01\0\0\0\x03\0\0\0\0\0\0\0\0\0\0\0\x01\0\0\0\x01\0\0\0";
-        let mut amounts = [0; 27];
-        amounts[..7].copy_from_slice(b"CLA\x01\0\x03\x02");
-        assert_eq!(find_and_run(book, &amounts, &mut [8; 6]).unwrap().verdict, Verdict::Full);
-        let mut flow = [8; 6];
-        assert_eq!(find_and_run_idle(book, &amounts, &mut flow), Err(Refusal::NoOrder));
-        assert_eq!(flow, [8; 6]);
-    }
-
-    /// A book of version 2 with two lots and two calls, all eligible at these costs.
-    fn rebates(costs: [[i32; 2]; 2]) -> [u8; 31] {
-        let mut book = [0; 31];
-        book[..7].copy_from_slice(b"CLB\x02\0\x02\x02");
-        for (lot, row) in costs.iter().enumerate() {
-            let at = 7 + 12 * lot;
-            book[at] = 3;
-            for (call, cost) in row.iter().enumerate() {
-                book[at + 4 + 4 * call..][..4].copy_from_slice(&cost.to_le_bytes());
-            }
-        }
-        book
-    }
-
-    #[test]
-    fn costs_below_zero() {
-        // F1 with rebates
-        let (book, mut flow) = (rebates([[1, -2], [-3, 5]]), [8; 5]);
-        let amounts = b"CLA\x01\0\x02\x02\x05\0\0\0\x04\0\0\0\x03\0\0\0\x06\0\0\0";
-        let placed = find_and_run(&book, amounts, &mut flow).unwrap();
-        assert_eq!((placed.verdict, placed.units, placed.cost, flow), (Verdict::Full, 9, -14, [0, 5, 3, 1, 8]));
-        assert_eq!([(0, 0), (0, 1), (1, 0), (1, 1)].map(|(i, j)| pair_cost(&book, i, j)), [1, -2, -3, 5].map(|cost| Ok(Some(cost))));
-        assert_eq!(lot_costs(&book, 1), b"\xfd\xff\xff\xff\x05\0\0\0");
-
-        // the order found is of version 1, and of version 2 it is refused
-        let mut order = [0; 15];
-        assert_eq!((find_order(&book, &mut order), &order[..5]), (Ok(15), &b"CLO\x01\0"[..]));
-        assert_eq!(run_order(&book, &order, amounts, &mut flow), Ok(placed));
-        order[3] = 2;
-        assert_eq!(check_order(&book, &order), Err(Refusal::VersionNotOne));
-    }
-
-    #[test]
-    fn costs_of_each_version() {
-        let read = |version, cost: i32| {
-            let mut book = rebates([[0, 0], [0, cost]]);
-            book[3] = version;
-            read_book(&book).map(|_| pair_cost(&book, 1, 1).unwrap().unwrap())
-        };
-        let outside = Err(Refusal::CostTooHigh { lot: 1, call: 1 });
-        assert_eq!([-1_000_000, -1, 0, 1_000_000].map(|cost| read(2, cost)), [-1_000_000, -1, 0, 1_000_000].map(Ok));
-        assert_eq!([-1_000_001, 1_000_001, i32::MIN, i32::MAX].map(|cost| read(2, cost)), [outside; 4]);
-        assert_eq!([-1_000_000, -1, 1_000_001, i32::MIN].map(|cost| read(1, cost)), [outside; 4]);
-        assert_eq!([0, 3, 255].map(|version| read(version, 0)), [Err(Refusal::VersionNotOne); 3]);
-    }
 }

@@ -13,7 +13,7 @@ pub enum Refusal {
     MarkDiffers,
     /// 3: a file's version is not 1; of a book, neither 1 nor 2.
     VersionNotOne,
-    /// 4: the book's count of lots or calls is 0 or above 32.
+    /// 4: the book's count of lots or calls is above 32.
     CountOutside,
     /// 5: the lot has an eligibility bit for a call that the book does not have.
     BitOutside { lot: usize },
@@ -105,7 +105,7 @@ impl fmt::Display for Refusal {
             Refusal::UnderSeven => write!(f, "a file is under 7 bytes"),
             Refusal::MarkDiffers => write!(f, "a file does not open with its mark"),
             Refusal::VersionNotOne => write!(f, "a file's version is not 1 (of a book: neither 1 nor 2)"),
-            Refusal::CountOutside => write!(f, "the book's count of lots or calls is 0 or above 32"),
+            Refusal::CountOutside => write!(f, "the book's count of lots or calls is above 32"),
             Refusal::BitOutside { lot } => write!(f, "lot {lot} has an eligibility bit for a call that the book does not have"),
             Refusal::EndsEarly => write!(f, "a file ends before its last field"),
             Refusal::CostTooHigh { lot, call } => {
