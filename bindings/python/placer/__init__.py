@@ -15,8 +15,6 @@ from .entry_points import (
     FLOW_MAX,
     ORDER_MAX,
     Counts,
-    Placing,
-    Verdict,
     check_order,
     find_and_run,
     find_and_run_idle,
@@ -30,6 +28,7 @@ from .entry_points import (
 )
 from .files import amounts_bytes, book_bytes, order_bytes
 from .lists import amounts_lists, book_costs, order_pairs
+from .placing import Placing, Verdict
 from .refused import Cause, Refused
 
 __version__ = "1.0.0"

@@ -85,8 +85,9 @@ def lend_items(buffer: Writable, size: int) -> Tuple[Any, int]:
 def apart(lent: Tuple[Any, int], *files: Tuple[Any, int]) -> None:
     """Raise ValueError if a buffer to write shares memory with a file, which the library does not allow."""
     start = ctypes.addressof(lent[0])
+    end = start + ctypes.sizeof(lent[0])
     for data, length in files:
-        if not isinstance(data, bytes) and start < ctypes.addressof(data) + length and ctypes.addressof(data) < start + ctypes.sizeof(lent[0]):
+        if not isinstance(data, bytes) and max(start, ctypes.addressof(data)) < min(end, ctypes.addressof(data) + length):
             raise ValueError("the buffer to write overlaps a file that is read")
 
 

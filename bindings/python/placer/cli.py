@@ -12,9 +12,10 @@ from pathlib import Path
 from typing import Iterator, List, Optional, Sequence, TextIO
 
 from . import __version__
-from .entry_points import Placing, check_order, find_and_run, find_and_run_idle, find_order, read_amounts, read_book, run_order
+from .entry_points import check_order, find_and_run, find_and_run_idle, find_order, read_amounts, read_book, run_order
 from .files import words
 from .lists import amounts_lists, book_costs, numbers, order_pairs
+from .placing import Placing
 from .refused import Cause, Refused
 from .tables import SOLVER, BadInput, Problem, contents, load, told
 
@@ -34,7 +35,8 @@ FILES are three CSV tables or two binary files:
                      per unit, -1,000,000 to 1,000,000, below 0 for a rebate, amounts whole units,
                      0 to 1,000,000,000
   BOOK AMOUNTS       a book (.clb) and an amounts file (.cla), as `placer encode` writes them
-One of the files may be -, standard input. Lots and calls are at most 32 each.
+One of the files may be -, standard input. Lots and calls are at most 32 each; a table with its
+header line alone has none.
 
 {_STATUS}"""
 
@@ -50,9 +52,9 @@ def _text(rows: Sequence[Sequence[object]]) -> str:
     return "".join("  ".join(map(str.rjust, row, widths)) + "\n" for row in cells)
 
 
-def _matrix(cells: Sequence[Sequence[Optional[int]]]) -> str:
+def _matrix(cells: Sequence[Sequence[Optional[int]]], calls: int) -> str:
     """Return a table of lots by calls, with - where a pair is not eligible."""
-    head = ["lot\\call", *range(len(cells[0]))]
+    head = ["lot\\call", *range(calls)]
     return _text([head, *([lot, *("-" if cell is None else cell for cell in row)] for lot, row in enumerate(cells))])
 
 
@@ -159,9 +161,9 @@ def _dimacs(options: argparse.Namespace) -> int:
 
 
 def _shown_book(data: bytes) -> str:
-    costs = book_costs(data)
+    costs, (lots, calls) = book_costs(data), read_book(data)
     pairs = sum(cost is not None for row in costs for cost in row)
-    return f"book: {len(costs)} lots, {len(costs[0])} calls, {pairs} eligible pairs, costs in hundredths of a cent\n" + _matrix(costs)
+    return f"book: {lots} lots, {calls} calls, {pairs} eligible pairs, costs in hundredths of a cent\n" + _matrix(costs, calls)
 
 
 def _shown_order(data: bytes) -> str:
@@ -176,13 +178,13 @@ def _shown_amounts(data: bytes) -> str:
 
 
 def _shown_flow(path: str, data: bytes, book: str) -> str:
-    costs = told(book, book_costs, contents(book))
-    calls = len(costs[0])
-    if len(data) != 4 * len(costs) * calls:
-        raise BadInput(path, None, f"a flow of this book has {4 * len(costs) * calls} bytes, not {len(data)}")
-    units = numbers(data)
+    file = contents(book)
+    lots, calls = told(book, read_book, file)
+    if len(data) != 4 * lots * calls:
+        raise BadInput(path, None, f"a flow of this book has {4 * lots * calls} bytes, not {len(data)}")
+    units, costs = numbers(data), book_costs(file)
     flow = [[None if cost is None else units[lot * calls + call] for call, cost in enumerate(row)] for lot, row in enumerate(costs)]
-    return f"flow: {sum(units)} units\n" + _matrix(flow)
+    return f"flow: {sum(units)} units\n" + _matrix(flow, calls)
 
 
 def _show(options: argparse.Namespace) -> int:

@@ -3,14 +3,13 @@
 from __future__ import annotations
 
 import ctypes
-import enum
 import operator
-from dataclasses import dataclass
 from typing import Any, NamedTuple, Optional, Sequence, Tuple
 
 from . import _library
 from ._library import BytesLike, Writable
 from .files import Costs, amounts_bytes, book_bytes
+from .placing import Placing, Verdict
 
 ORDER_MAX = 2055  # bytes of the longest order that the finder writes
 FLOW_MAX = 1024  # entries of the largest flow
@@ -21,54 +20,6 @@ class Counts(NamedTuple):
 
     lots: int
     calls: int
-
-
-class Verdict(enum.IntEnum):
-    """What a run met, by the numbers of the C header.
-
-    Attributes:
-        FULL: nothing is left in any lot or call; the cost is the least of all allocations that meet everything.
-        SHORT: a call lacks units; no allocation meets every call.
-        COVERED: every call is met and some lot has units left; the cost is the least of all allocations that meet every call by
-            `find_and_run_idle`, and need not be by the other runs.
-    """
-
-    FULL = 1
-    SHORT = 2
-    COVERED = 3
-
-    def __str__(self) -> str:
-        """Return the name, as `Verdict.FULL`."""
-        return f"Verdict.{self.name}"
-
-    __repr__ = __str__
-
-
-@dataclass(frozen=True)
-class Placing:
-    """What a run placed.
-
-    Attributes:
-        verdict: whether everything, or every call, is met.
-        units: how many units were placed; no allocation has more.
-        cost: the sum of units times cost, in hundredths of a cent; below 0 where rebates outweigh.
-        flow: the units of each pair: `flow[lot][call]`, 0 where not eligible.
-    """
-
-    verdict: Verdict
-    units: int
-    cost: int
-    flow: Tuple[Tuple[int, ...], ...]
-
-    @property
-    def full(self) -> bool:
-        """Whether nothing is left in any lot or call."""
-        return self.verdict is Verdict.FULL
-
-    @property
-    def met(self) -> bool:
-        """Whether every call is met: the verdict is FULL or COVERED."""
-        return self.verdict in (Verdict.FULL, Verdict.COVERED)
 
 
 def read_book(book: BytesLike) -> Counts:
@@ -83,6 +34,8 @@ def read_book(book: BytesLike) -> Counts:
     Examples:
         >>> read_book(book_bytes([[1, 2], [3, 5]]))
         Counts(lots=2, calls=2)
+        >>> read_book(book_bytes([], calls=2))
+        Counts(lots=0, calls=2)
     """
     return Counts(*_library.call("read_book", _library.lend(book))[1][:2])
 
@@ -284,9 +237,9 @@ def place(costs: Costs, lots: Sequence[int], calls: Sequence[int], *, idle: bool
 
     Args:
         costs: for each lot in turn the cost of each call, whole hundredths of a cent per unit, below 0 for a rebate; None where not
-            eligible.
-        lots: what each lot has, in whole units.
-        calls: what each call asks for.
+            eligible. Without calls each lot's row is empty.
+        lots: what each lot has, in whole units; empty if there are none yet.
+        calls: what each call asks for; likewise.
         idle: whether to make, with stock to spare, the cheapest choice of what stays in the box, as `find_and_run_idle` does.
 
     Returns:
@@ -309,6 +262,11 @@ def place(costs: Costs, lots: Sequence[int], calls: Sequence[int], *, idle: bool
         Placing(verdict=Verdict.COVERED, units=5, cost=9, flow=((1, 0), (2, 2)))
         >>> place([[1, -2], [-3, 5]], [5, 4], [3, 6])
         Placing(verdict=Verdict.FULL, units=9, cost=-14, flow=((0, 5), (3, 1)))
+        >>> place([], [], [3, 6])
+        Placing(verdict=Verdict.SHORT, units=0, cost=0, flow=())
+        >>> place([[], []], [5, 4], [])
+        Placing(verdict=Verdict.COVERED, units=0, cost=0, flow=((), ()))
     """
     run = find_and_run_idle if idle else find_and_run
-    return run(book_bytes(costs), amounts_bytes(lots, calls))
+    book = book_bytes(costs, None if costs else len(calls))  # without rows the amounts tell how many calls there are
+    return run(book, amounts_bytes(lots, calls))

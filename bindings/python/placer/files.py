@@ -32,17 +32,19 @@ def _small(numbers: Iterable[int]) -> bytes:
     return bytes(whole)
 
 
-def book_bytes(costs: Costs) -> bytes:
+def book_bytes(costs: Costs, calls: Optional[int] = None) -> bytes:
     """Make a book file: of version 2 if a cost is below 0, a rebate, else of version 1.
 
     Args:
-        costs: for each lot in turn the cost of each call, whole hundredths of a cent per unit; None where not eligible.
+        costs: for each lot in turn the cost of each call, whole hundredths of a cent per unit; None where not eligible. A desk without
+            lots has no rows, one without calls a row of no costs for each lot.
+        calls: the count of calls; by default that of the first row's costs, and 0 if there are no rows.
 
     Returns:
         The bytes of the book, to be read by any call of this package.
 
     Raises:
-        ValueError: the rows differ in length, or a number does not fit its field.
+        ValueError: a row has not as many costs as there are calls, or a number does not fit its field.
         TypeError: a cost is neither None nor a whole number.
 
     Examples:
@@ -50,13 +52,16 @@ def book_bytes(costs: Costs) -> bytes:
         '434c42 01000202 03000000 01000000 02000000 03000000 03000000 05000000'
         >>> book_bytes([[-1]]).hex(" ", 4)
         '434c42 02000101 01000000 ffffffff'
+        >>> book_bytes([], calls=2).hex(" ", 4), book_bytes([[]]).hex(" ", 4)
+        ('434c42 01000002', '434c42 01000100 00000000')
     """
-    calls = len(costs[0]) if costs else 0
+    if calls is None:
+        calls = len(costs[0]) if costs else 0
     signed = any(operator.index(cost) < 0 for row in costs for cost in row if cost is not None)
     parts = [_opening(b"CLB", _small([len(costs), calls]), 2 if signed else 1)]
     for lot, row in enumerate(costs):
         if len(row) != calls:
-            raise ValueError(f"lot {lot} has {len(row)} costs, lot 0 has {calls}")
+            raise ValueError(f"lot {lot} has {len(row)} costs for {calls} calls")
         word = sum(1 << call for call, cost in enumerate(row) if cost is not None)
         # Of more than 32 calls the word holds the first 32: such a book is refused before its words are read.
         parts.append(words([word % 2**32]) + words((cost for cost in row if cost is not None), signed))

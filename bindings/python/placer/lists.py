@@ -37,6 +37,8 @@ def _fields(file: bytes, length: int) -> bytes:
 def book_costs(book: BytesLike) -> List[List[Optional[int]]]:
     """Return the costs of a book: for each lot the cost of each call, None where not eligible.
 
+    A book without lots has no rows; `read_book` tells its count of calls, which `book_bytes` takes.
+
     Raises:
         Refused: as `read_book`.
 

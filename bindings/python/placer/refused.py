@@ -35,7 +35,7 @@ _SENTENCES = {
     Cause.UNDER_SEVEN: "the file has under 7 bytes",
     Cause.MARK_DIFFERS: "the file does not open with its mark (a book with CLB, an order with CLO, amounts with CLA)",
     Cause.VERSION_NOT_ONE: "the file's version is not 1 (of a book: neither 1 nor 2)",
-    Cause.COUNT_OUTSIDE: "the book's count of lots or calls is 0 or above 32",
+    Cause.COUNT_OUTSIDE: "the book's count of lots or calls is above 32",
     Cause.BIT_OUTSIDE: "lot {} is marked eligible for a call that the book does not have",
     Cause.ENDS_EARLY: "the file ends before its last field",
     Cause.COST_TOO_HIGH: "the cost of lot {}, call {} is above 1,000,000 (in a book of version 2: or below -1,000,000)",

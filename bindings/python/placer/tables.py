@@ -94,7 +94,7 @@ def _whole(path: str, line: int, what: str, text: str, most: int, number: Cause,
 
 
 def _amounts(path: str, what: str) -> Dict[str, int]:
-    """Return the amount of each lot or call by its name, in order of first appearance."""
+    """Return the amount of each lot or call by its name, in order of first appearance; none if the table is its header line alone."""
     amounts: Dict[str, int] = {}
     for line, (name, amount) in _rows(path, f"{what},amount"):
         if name in amounts:
@@ -102,8 +102,6 @@ def _amounts(path: str, what: str) -> Dict[str, int]:
         if len(amounts) == MOST:
             raise BadInput(path, line, f"more than {MOST} {what}s (refusal {Cause.COUNT_OUTSIDE.value})")
         amounts[name] = _whole(path, line, "amount", amount, AMOUNT_MOST, Cause.AMOUNT_TOO_HIGH)
-    if not amounts:
-        raise BadInput(path, None, f"no {what}s (refusal {Cause.COUNT_OUTSIDE.value})")
     return amounts
 
 
@@ -118,7 +116,7 @@ def _from_tables(pairs: str, lots: str, calls: str) -> Problem:
         if (lot, call) in costs:
             raise BadInput(pairs, line, f"the pair {lot!r}, {call!r} stands here a second time")
         costs[lot, call] = _whole(pairs, line, "cost", cost, COST_MOST, Cause.COST_TOO_HIGH, signed=True)
-    book = book_bytes([[costs.get((lot, call)) for call in asks] for lot in has])
+    book = book_bytes([[costs.get((lot, call)) for call in asks] for lot in has], len(asks))
     return Problem(list(has), list(asks), book, amounts_bytes(list(has.values()), list(asks.values())))
 
 

@@ -87,19 +87,25 @@ class Arguments(Case):
         self.assertRaises(ValueError, placer.find_order, book, room)
         self.assertEqual(bytes(book), BOOK)
         self.assertEqual(placer.find_and_run(book, AMOUNTS, flow[len(flow) - 4 :]).cost, 24)
+        self.refused(17, (), placer.find_and_run, book, AMOUNTS, flow[2:2])  # which has no byte of the book
 
     def test_lists(self):
         """The makers of files take whole numbers that fit."""
-        for bad in ([[1, 2], [3]], [[-1, 2**31]], [[-(2**31) - 1]], [[2**32]], [[0]] * 256):
+        for bad in ([[1, 2], [3]], [[], [3]], [[1], []], [[-1, 2**31]], [[-(2**31) - 1]], [[2**32]], [[0]] * 256):
             self.assertRaises(ValueError, book_bytes, bad)
+        for calls in (-1, 0, 1, 3, 256):
+            self.assertRaises(ValueError, book_bytes, [[1, 2]], calls)
+        self.assertEqual(book_bytes([[1, 2]], 2), book_bytes([[1, 2]]))
+        self.assertRaises(ValueError, book_bytes, [], 256)
+        self.assertRaises(TypeError, book_bytes, [], 2.0)
         for bad in ([[1.0]], [[-1.0]], [["1"]], [[float("nan")]]):
             self.assertRaises(TypeError, book_bytes, bad)
         self.assertRaises(ValueError, amounts_bytes, [-1], [1])
         self.assertRaises(TypeError, amounts_bytes, [1.5], [1])
         self.assertRaises(ValueError, order_bytes, [(0, 256)])
         self.assertRaises(ValueError, order_bytes, [(0, 0)] * 65536)
-        for costs in ([], [[]], [[0]] * 33):
-            self.refused(4, (), placer.place, costs, [0] * len(costs), [])
+        for costs, calls in (([[0]] * 33, [0]), ([[]] * 33, []), ([[0] * 33], [0] * 33), ([], [0] * 33)):
+            self.refused(4, (), placer.place, costs, [0] * len(costs), calls)
 
     def test_versions(self):
         """A book is of version 2 if a cost is below 0, else of version 1; either is read back as it was made."""

@@ -39,7 +39,10 @@ BAD = [
     ("lots.csv", LOTS + "OAT 2029,1\n", "lots.csv:4: the lot 'OAT 2029' stands here a second time"),
     ("lots.csv", LOTS.replace(",5", ",-5"), "lots.csv:2: the amount '-5' is not a whole number"),
     ("lots.csv", LOTS.replace(",5", ",1000000001"), "lots.csv:2: the amount 1000000001 is above 1,000,000,000 (refusal 16)"),
-    ("lots.csv", "lot,amount\n", "lots.csv: no lots (refusal 4)"),
+    ("lots.csv", "lot,amount\n", "pairs.csv:2: the lot 'Bund 2031' is not in lots.csv"),
+    ("lots.csv", "", "lots.csv:1: the header line must be lot,amount"),
+    ("calls.csv", "call,amount\n", "pairs.csv:2: the call 'Clearing A' is not in calls.csv"),
+    ("calls.csv", "\n", "calls.csv:1: the header line must be call,amount"),
     ("calls.csv", "call,amount\n" + "".join(f"{c},0\n" for c in range(33)), "calls.csv:34: more than 32 calls (refusal 4)"),
     ("calls.csv", b"call,amount\n\xff,0\n", "calls.csv: is not UTF-8 text"),
     ("calls.csv", None, "calls.csv: No such file or directory"),
@@ -132,6 +135,46 @@ class Command(Case):
         self.assertEqual(self.run_it("show", "book.clb")[1].splitlines()[1:], ["lot\\call   0   1", "       0   1  -2", "       1  -3   5"])
         self.assertIn("\na 2 3 0 3 -3\n", self.run_it("dimacs", *TABLES)[1])
         self.assertEqual(self.run_it("place", "--idle", *TABLES)[::2], (0, "covered: 9 units, cost -21\n"))
+
+    def test_new_desk(self):
+        """A table with its header line alone has no lots, no calls or no eligible pairs."""
+        self.write({"pairs.csv": "lot,call,cost\n"})
+        for lots, calls, status, word in [
+            ("lot,amount\n", CALLS, 1, "short"),
+            ("lot,amount", "call,amount\nA,0\n", 0, "full"),
+            (LOTS, "call,amount\n\n", 0, "covered"),
+            ("lot,amount\nA,0\n", "call,amount\n", 0, "full"),
+            ("lot,amount\n", "call,amount\n", 0, "full"),
+            (LOTS, CALLS, 1, "short"),
+        ]:
+            self.write({"lots.csv": lots, "calls.csv": calls})
+            placed = status, "lot,call,units\n", f"{word}: 0 units, cost 0\n"
+            self.assertEqual(self.run_it("place", *TABLES), placed)
+            self.assertEqual(self.run_it("encode", "--order", *TABLES), (0, "", ""))
+            self.assertEqual(self.run_it("place", "book.clb", "amounts.cla", "--order", "order.clo"), placed)
+            if word != "short":
+                self.assertEqual(self.run_it("place", "--idle", *TABLES), placed)
+        self.write({"lots.csv": "lot,amount\n"})
+        self.assertIn("calls.csv: refused 18", self.run_it("place", "--idle", *TABLES)[2])
+
+    def test_new_desk_shown(self):
+        """The files of a desk without lots or without calls are checked, shown and exported."""
+        for lots, calls, matrix, last, nodes in [
+            ([], [3, 6], "lot\\call  0  1\n", "call       1       6\n", ["p min 2 0", "n 1 -3", "n 2 -6"]),
+            ([5, 4], [], "lot\\call\n       0\n       1\n", "lot       1       4\n", ["p min 2 0", "n 1 5", "n 2 4"]),
+            ([], [], "lot\\call\n", "  number  amount\n", ["p min 0 0"]),
+        ]:
+            self.write({"book.clb": placer.book_bytes([[]] * len(lots), len(calls)), "amounts.cla": placer.amounts_bytes(lots, calls)})
+            self.write({"order.clo": placer.order_bytes([])})
+            self.run_it("place", "book.clb", "amounts.cla", "--flow", "flow")
+            counts = f"{len(lots)} lots, {len(calls)} calls, 0 eligible pairs"
+            self.assertEqual(self.run_it("show", "book.clb")[1], f"book: {counts}, costs in hundredths of a cent\n{matrix}")
+            self.assertEqual(self.run_it("show", "flow", "--book", "book.clb")[1], f"flow: 0 units\n{matrix}")
+            self.assertEqual(self.run_it("show", "order.clo")[1], "order: 0 pairs\nplace  lot  call\n")
+            self.assertTrue(self.run_it("show", "amounts.cla")[1].endswith(last))
+            self.assertEqual(self.run_it("check", "book.clb", "order.clo", "amounts.cla")[0], 0)
+            lines = self.run_it("dimacs", "book.clb", "amounts.cla")[1].splitlines()
+            self.assertEqual([line for line in lines if not line.startswith("c ")], nodes)
 
     def test_idle_refused(self):
         """A refusal with --idle is told of the file that has the cause, and says what to do instead."""

@@ -10,16 +10,19 @@ from placer import amounts_bytes, book_bytes, order_bytes
 
 
 def books(count, seed):
-    """Yield random books with gaps, some with rebates, many of which have an order, with amounts of equal and of unequal total."""
+    """Yield random books with gaps, some with rebates, many of which have an order, with amounts of equal and of unequal total.
+
+    Some have no lots or no calls.
+    """
     rng = random.Random(seed)
     for turn in range(count):
-        lots, calls = rng.randint(1, 5), rng.randint(1, 5)
+        lots, calls = rng.randint(0, 5), rng.randint(0, 5)
         rows, columns = ([rng.randint(0, 4) for _ in range(size)] for size in (lots, calls))
         noise, gaps, rebate = (turn % 3) // 2, (0, 0.15, 0.4)[turn % 5 % 3], 9 * (turn // 30 % 2)
         costs = [[None if rng.random() < gaps else a * b + rng.randint(0, noise) - rebate for b in columns] for a in rows]
         amounts = [rng.randint(0, 5) for _ in rows], [rng.randint(0, 5) for _ in columns]
         gap = sum(amounts[0]) - sum(amounts[1])
-        if turn % 2:
+        if turn % 2 and amounts[gap > 0]:
             amounts[gap > 0][0] += abs(gap)
         yield rng, costs, amounts
 
@@ -36,9 +39,10 @@ class Model(unittest.TestCase):
 
     def test_books(self):
         """Finder, run and check on the same books, with the finder's order and a shuffled one."""
-        verdicts, below = Counter(), 0
+        verdicts, below, bare = Counter(), 0, 0
         for rng, costs, amounts in books(400, 1):
-            book, file = book_bytes(costs), amounts_bytes(*amounts)
+            bare += not all(amounts)
+            book, file = book_bytes(costs, len(amounts[1])), amounts_bytes(*amounts)
             order = model.find(costs)
             placing = self.reply(placer.find_and_run, book, file)
             if order is None:
@@ -61,13 +65,13 @@ class Model(unittest.TestCase):
                 self.assertEqual(self.reply(placer.check_order, book, order_bytes(pairs)), failure or len(pairs))
             self.assertEqual(placer.book_costs(book), costs)
             self.assertEqual([[placer.pair_cost(book, lot, call) for call in range(len(row))] for lot, row in enumerate(costs)], costs)
-        self.assertGreater(min(below, *(verdicts[verdict] for verdict in placer.Verdict)), 50)
+        self.assertGreater(min(below, bare, *(verdicts[verdict] for verdict in placer.Verdict)), 50)
 
     def test_idle(self):
         """With an idle call: the plain version's reply and flow, and the least cost of all allocations that meet every call."""
         replies, cheaper, below = Counter(), 0, 0
         for _, costs, amounts in books(800, 3):
-            book, file, expected = book_bytes(costs), amounts_bytes(*amounts), model.idle(costs, *amounts)
+            book, file, expected = book_bytes(costs, len(amounts[1])), amounts_bytes(*amounts), model.idle(costs, *amounts)
             placing = self.reply(placer.find_and_run_idle, book, file)
             if isinstance(expected, int):
                 self.assertEqual(placing, (expected, ()))
