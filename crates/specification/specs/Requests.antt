@@ -1,6 +1,6 @@
 -- What the change requests (document 02) promise beside the demands, as types. Above each part stands the sentence it is. A request
 -- that changes what document 01 has is in the definitions and the demands themselves: request 1 in `Ran` and `Verdicts`, and request 4 in
--- `heldCost` and `costsOf`, by which every cost and every least cost is stated.
+-- `heldCost` and `costsOf`, by which every cost and every least cost is stated. Request 5 has a page of its own, `EmptyDesk`.
 use mathlib.Core.Path.{_≡_}
 use mathlib.Core.Logic.{_⊎_, _↔_}
 use mathlib.Core.Bool.{true}
