@@ -2,6 +2,7 @@
 //! verdicts promise and request 2 by brute force. The seed is fixed, so every run is the same. Parts run at the same time in several
 //! threads, as the library allows. The last line is `tests: N cases, D differences`; the exit status is 0 only if D is 0, each number and
 //! each verdict came, and each wrong reference was noticed. A digest of replies and writes is another where a landing changes one of them.
+mod costs;
 mod demand3;
 mod direct;
 mod families;

@@ -1,9 +1,10 @@
 //! The finder against the plain rule on the families of bench/books.hpp and on costs at both ends of the range: as they are, with ties,
 //! with a call that costs all lots the same, and spoilt by one cost or by pairs that are missing. Lots and calls differ in number.
+use crate::costs::{pairs, Costs};
 use crate::files::{amounts_file, book_file};
 use crate::library::Comparison;
 use crate::rebates::in_version;
-use crate::samples::{amounts, even, pairs, permuted, Costs, Random};
+use crate::samples::{amounts, even, permuted, Random};
 
 const COST_LIMIT: i64 = 1_000_000;
 
@@ -58,22 +59,17 @@ fn monge(random: &mut Random, lots: usize, calls: usize, cells: usize, density: 
         weight[random.below(lots as u64) as usize][random.below(calls as u64) as usize] += random.cost(density + 1);
     }
     let (of_lot, of_call) = (random.costs(lots, parts + 1), random.costs(calls, parts + 1));
-    let mut sums = vec![0; calls];
-    let mut row = |i: usize| {
-        let mut run = 0;
-        let mut cost = |j: usize| {
-            sums[j] += weight[i][j];
-            run += sums[j];
-            Some(cells as i64 * density as i64 + of_lot[i] + of_call[j] - run)
-        };
-        (0..calls).map(&mut cost).collect()
-    };
-    (0..lots).map(&mut row).collect()
+    let (mut sums, mut run) = (vec![0; calls], 0);
+    Costs::of(lots, calls, |i, j| {
+        sums[j] += weight[i][j];
+        run = if j == 0 { sums[j] } else { run + sums[j] };
+        Some(cells as i64 * density as i64 + of_lot[i] + of_call[j] - run)
+    })
 }
 
 /// A tree: each lot and call beyond the first is tied to an earlier one of the other side, at any cost.
 fn tree(random: &mut Random, lots: usize, calls: usize) -> Costs {
-    let mut costs = vec![vec![None; calls]; lots];
+    let mut costs = Costs::of(lots, calls, |_, _| None);
     for v in 0..lots.max(calls) {
         if v < lots {
             costs[v][random.below(v.clamp(1, calls) as u64) as usize] = Some(random.cost(COST_LIMIT as u64 + 1));
@@ -91,13 +87,13 @@ fn both_ends(random: &mut Random, lots: usize, calls: usize) -> Costs {
     let late = early + random.below((lots - early) as u64 + 1) as usize;
     let (last, first) = (random.below(calls as u64 + 1) as usize, random.below(calls as u64 + 1) as usize);
     let dear = |i: usize, j: usize| (i < early && j >= last) || (i >= late && j < first);
-    (0..lots).map(|i| (0..calls).map(|j| Some(if dear(i, j) { COST_LIMIT } else { 0 })).collect()).collect()
+    Costs::of(lots, calls, |i, j| Some(if dear(i, j) { COST_LIMIT } else { 0 }))
 }
 
 fn costs_of(random: &mut Random, family: Family, lots: usize, calls: usize) -> Costs {
     let mut costs = match family {
         Family::Sparse => tree(random, lots, calls),
-        Family::AllEqual => vec![vec![Some(7); calls]; lots],
+        Family::AllEqual => Costs::all_at(lots, calls, 7),
         Family::FewLevels => monge(random, lots, calls, 4, 1, 0),
         Family::BothEnds => both_ends(random, lots, calls),
         Family::Natural | Family::Permuted | Family::Band => monge(random, lots, calls, lots * calls, 400, 100_000),
@@ -145,7 +141,7 @@ fn anything(random: &mut Random, costs: &mut Costs, count: usize) {
 }
 
 fn change(random: &mut Random, change: Change, costs: &mut Costs) {
-    let (lots, calls) = (costs.len(), costs[0].len());
+    let (lots, calls) = costs.size();
     let (lot, call) = (random.below(lots as u64) as usize, random.below(calls as u64) as usize);
     match change {
         Change::Nothing => (),
@@ -187,7 +183,7 @@ pub fn each_book(random: &mut Random, rounds: usize, sizes: &[usize], work: &mut
 pub fn families(c: &mut Comparison, version: u16, rounds: usize, sizes: &[usize]) {
     each_book(&mut Random(60 + sizes.len() as u64), rounds, sizes, &mut |random, number, costs| {
         let costs = in_version(random, version, costs);
-        let (lots, calls, book) = (costs.len(), costs[0].len(), book_file(version, &costs));
+        let ((lots, calls), book) = (costs.size(), book_file(version, &costs));
         c.find_order(&book, &random.bytes(7 + 2 * pairs(&costs).len()));
         if number % 2 == 0 {
             c.find_and_run(&book, &amounts_file(lots, calls, &amounts(random, &costs)), &random.entries(lots * calls));

@@ -1,6 +1,6 @@
 //! The three files, written as document 01 lays them out.
+use crate::costs::Costs;
 use crate::reference::Pair;
-use crate::samples::Costs;
 
 pub fn order_file(pairs: &[Pair]) -> Vec<u8> {
     let mut file = b"CLO\x01\x00".to_vec();
@@ -11,8 +11,8 @@ pub fn order_file(pairs: &[Pair]) -> Vec<u8> {
 
 /// A cost below zero is written as two's complement.
 pub fn book_file(version: u16, costs: &Costs) -> Vec<u8> {
-    let mut file = relabelled(&[b'C', b'L', b'B', 0, 0, costs.len() as u8, costs[0].len() as u8], version);
-    for row in costs {
+    let mut file = relabelled(&[b'C', b'L', b'B', 0, 0, costs.len() as u8, costs.calls as u8], version);
+    for row in costs.iter() {
         let bits: u32 = (0..row.len()).filter(|&j| row[j].is_some()).map(|j| 1 << j).sum();
         file.extend_from_slice(&bits.to_le_bytes());
         file.extend(row.iter().flatten().flat_map(|&cost| (cost as u32).to_le_bytes()));

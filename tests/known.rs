@@ -1,9 +1,9 @@
 //! Runs whose replies are known: the reference and the library are held to them.
+use crate::costs::{rows, Costs, NO};
 use crate::direct::run;
 use crate::files::{amounts_file, book_file, order_file};
 use crate::library::{accepted, refusal, Comparison, IDLE, PLAIN};
 use crate::placing::Verdict;
-use crate::samples::{rows, Costs, NO};
 use crate::sections::some_order;
 use crate::sys::Reply;
 
@@ -42,8 +42,8 @@ pub fn known_runs() -> Vec<Known> {
         (rows(&[&[5], &[1]]), vec![1, 1, 1], (Verdict::Covered, 1, 5)),
         (rows(&[&[5, 1]]), vec![1, 1, 1], (Verdict::Short, 1, 5)),
         (no_idle_order(), vec![1, 1, 1, 1, 1], (Verdict::Covered, 2, 1)),
-        (vec![vec![Some(0)]; 5], [&many[..], &[0]].concat(), (Verdict::Covered, 0, 0)),
-        (vec![vec![Some(0); 5]], [&[0][..], &many].concat(), (Verdict::Short, 0, 0)),
+        (Costs::all_at(5, 1, 0), [&many[..], &[0]].concat(), (Verdict::Covered, 0, 0)),
+        (Costs::all_at(1, 5, 0), [&[0][..], &many].concat(), (Verdict::Short, 0, 0)),
     ]
 }
 
@@ -51,7 +51,7 @@ pub fn known_runs() -> Vec<Known> {
 pub fn one_unit() -> Vec<Known> {
     let mut runs = Vec::new();
     for (lots, calls) in [(2, 3), (1, 32), (32, 1), (32, 32)] {
-        let costs: Costs = (0..lots).map(|i| (0..calls).map(|j| (i == j).then_some(1)).collect()).collect();
+        let costs = Costs::of(lots, calls, |i, j| (i == j).then_some(1));
         for at in 0..lots + calls {
             let mut amounts = vec![0; lots + calls];
             amounts[at] = 1;
@@ -67,7 +67,7 @@ pub fn one_unit() -> Vec<Known> {
 /// a call that lacks; idle amounts and totals above 32 bits.
 fn idle_runs() -> Vec<(Known, Vec<u32>)> {
     let (f1, corner, cross, none) = (rows(&[&[1, 2], &[3, 5]]), rows(&[&[0, 0], &[0, NO]]), rows(&[&[0, NO], &[NO, 0]]), rows(&[&[NO]]));
-    let (falling, zeros) = ((0..6).map(|i| vec![Some(6 - i)]).collect(), vec![vec![Some(0); 4]; 5]);
+    let (falling, zeros) = (Costs::of(6, 1, |i, _| Some(6 - i as i64)), Costs::all_at(5, 4, 0));
     let at_each = |step: usize, count: usize| -> Vec<u32> { (0..count).map(|k| if k % step == 0 { 1_000_000_000 } else { 0 }).collect() };
     vec![
         ((f1.clone(), vec![5, 4, 3, 6], (Verdict::Full, 9, 24)), vec![0, 5, 3, 1]),
@@ -85,18 +85,18 @@ fn idle_runs() -> Vec<(Known, Vec<u32>)> {
         ((rows(&[&[NO], &[5], &[1]]), vec![1, 1, 1, 1], (Verdict::Covered, 1, 1)), vec![0, 0, 1]),
         ((rows(&[&[5], &[1], &[NO]]), vec![1, 1, 5, 2], (Verdict::Covered, 2, 6)), vec![1, 1, 0]),
         ((cross, vec![5, 0, 1, 1], (Verdict::Short, 1, 0)), vec![1, 0, 0, 0]),
-        ((vec![vec![Some(0)]; 32], [vec![BILLION; 32], vec![0]].concat(), (Verdict::Covered, 0, 0)), vec![0; 32]),
-        ((vec![vec![Some(0); 31]; 32], [vec![BILLION; 32], vec![0; 31]].concat(), (Verdict::Covered, 0, 0)), vec![0; 32 * 31]),
+        ((Costs::all_at(32, 1, 0), [vec![BILLION; 32], vec![0]].concat(), (Verdict::Covered, 0, 0)), vec![0; 32]),
+        ((Costs::all_at(32, 31, 0), [vec![BILLION; 32], vec![0; 31]].concat(), (Verdict::Covered, 0, 0)), vec![0; 32 * 31]),
         ((falling, vec![BILLION; 7], (Verdict::Covered, BILLION, BILLION as i64)), vec![0, 0, 0, 0, 0, 1_000_000_000]),
         ((zeros, vec![BILLION; 9], (Verdict::Covered, 4 * BILLION, 0)), at_each(5, 20)),
-        ((vec![vec![Some(1); 5]; 5], vec![BILLION; 10], (Verdict::Full, 5 * BILLION, 5 * BILLION as i64)), at_each(6, 25)),
+        ((Costs::all_at(5, 5, 1), vec![BILLION; 10], (Verdict::Full, 5 * BILLION, 5 * BILLION as i64)), at_each(6, 25)),
     ]
 }
 
 /// Runs with an idle call that are refused: book, amounts, entries of the flow buffer, number. Of several causes the first; the enlarged
 /// book without an order; totals that differ by one unit, and above 32 bits.
 fn idle_refused() -> Vec<(Costs, Vec<u64>, usize, u32)> {
-    let wide = |calls: usize| -> Costs { (0..3).map(|i| (0..calls).map(|j| (j < 3 && i != j).then_some(0)).collect()).collect() };
+    let wide = |calls: usize| Costs::of(3, calls, |i, j| (j < 3 && i != j).then_some(0));
     let amounts = |calls: usize, last: u64| [vec![0; 2 + calls], vec![last]].concat();
     vec![
         (wide(32), amounts(32, BILLION + 1), 95, 16),
@@ -112,8 +112,8 @@ fn idle_refused() -> Vec<(Costs, Vec<u64>, usize, u32)> {
         (no_idle_order(), vec![1, 1, 1, 1, 1], 5, 17),
         (no_idle_order(), vec![1, 1, 1, 2, 2], 5, 18),
         (rows(&[&[7]]), vec![BILLION - 1, BILLION], 1, 18),
-        (vec![vec![Some(0); 6]; 5], [vec![BILLION; 10], vec![1]].concat(), 30, 18),
-        (vec![vec![Some(0); 32]; 32], vec![BILLION; 64], 1024, 19),
+        (Costs::all_at(5, 6, 0), [vec![BILLION; 10], vec![1]].concat(), 30, 18),
+        (Costs::all_at(32, 32, 0), vec![BILLION; 64], 1024, 19),
     ]
 }
 
@@ -127,7 +127,7 @@ pub fn known_rebates() -> Vec<Known> {
         (rows(&[&[-1]]), vec![0, 0], (Verdict::Full, 0, 0)),
         (rows(&[&[-1]]), vec![1, 1], (Verdict::Full, 1, -1)),
         (rows(&[&[least]]), vec![BILLION, BILLION], (Verdict::Full, BILLION, least * billion)),
-        (vec![vec![Some(least); 32]; 32], vec![BILLION; 64], (Verdict::Full, 32 * BILLION, 32 * least * billion)),
+        (Costs::all_at(32, 32, least), vec![BILLION; 64], (Verdict::Full, 32 * BILLION, 32 * least * billion)),
         (rows(&[&[3, -1]]), vec![2, 1, 1], (Verdict::Full, 2, 2)),
         (rows(&[&[5], &[-3]]), vec![2, 2, 2], (Verdict::Covered, 2, 10)),
         (rows(&[&[-7]]), vec![BILLION, BILLION - 1], (Verdict::Covered, BILLION - 1, -7 * (billion - 1))),
@@ -148,7 +148,7 @@ fn idle_rebates() -> Vec<(Known, Vec<u32>)> {
         ((rows(&[&[3], &[-1], &[0]]), vec![1, 1, 1, 2], (Verdict::Covered, 2, -1)), vec![0, 1, 1]),
         ((rows(&[&[-1], &[1], &[NO]]), vec![1, 2, 3, 2], (Verdict::Covered, 2, 0)), vec![1, 1, 0]),
         ((rows(&[&[-1]]), vec![1, 0], (Verdict::Covered, 0, 0)), vec![0]),
-        ((vec![vec![Some(-1_000_000)]; 32], vec![BILLION; 33], (Verdict::Covered, BILLION, -1_000_000 * billion)), first),
+        ((Costs::all_at(32, 1, -1_000_000), vec![BILLION; 33], (Verdict::Covered, BILLION, -1_000_000 * billion)), first),
     ]
 }
 
@@ -163,7 +163,7 @@ fn one_idle(c: &mut Comparison, book: &[u8], amounts: &[u8], entries: usize, rep
 
 /// The two files of a version.
 fn files(version: u16, costs: &Costs, amounts: &[u64]) -> (Vec<u8>, Vec<u8>) {
-    (book_file(version, costs), amounts_file(costs.len(), costs[0].len(), amounts))
+    (book_file(version, costs), amounts_file(costs.len(), costs.calls, amounts))
 }
 
 /// Runs with an idle call, each with a buffer of just the length, a longer one, and one that lacks an entry; and those that are refused.
@@ -185,7 +185,7 @@ fn idle_of(c: &mut Comparison, version: u16, runs: Vec<(Known, Vec<u32>)>) {
 fn runs_of(c: &mut Comparison, version: u16, runs: Vec<Known>) {
     for (costs, amounts, (verdict, units, cost)) in runs {
         let (book, amounts) = files(version, &costs, &amounts);
-        let (order, flow) = (order_file(&some_order(&costs)), vec![9; costs.len() * costs[0].len() + 1]);
+        let (order, flow) = (order_file(&some_order(&costs)), vec![9; costs.len() * costs.calls + 1]);
         c.find_and_run(&book, &amounts, &flow);
         c.run_order(&book, &order, &amounts, &flow);
         let reply = accepted(verdict, units, cost);

@@ -1,9 +1,10 @@
 //! The printing program, run in a folder of its own and held to the reference's text.
+use crate::costs::{rows, Costs};
 use crate::files::{amounts_file, book_file};
 use crate::known::{known_rebates, known_runs, one_unit, Known};
 use crate::library::Comparison;
 use crate::rebates::{in_version, stored_rebates};
-use crate::samples::{amounts, costs, rows, stored_books, Random, KINDS};
+use crate::samples::{amounts, costs, stored_books, Random, KINDS};
 use std::fs;
 use std::io::Write;
 use std::path::{Path, PathBuf};
@@ -60,7 +61,7 @@ impl Place<'_> {
     /// The known runs, each with its first line.
     fn known_runs(&mut self, version: u16, runs: Vec<Known>) {
         for (costs, amounts, (verdict, units, cost)) in runs {
-            let amounts = amounts_file(costs.len(), costs[0].len(), &amounts);
+            let amounts = amounts_file(costs.len(), costs.calls, &amounts);
             let got = self.printed(Some(&book_file(version, &costs)), Some(&amounts));
             let line = format!("{} {units} {cost}\n", verdict.word());
             self.count(got.starts_with(line.as_bytes()), &got, &line);
@@ -108,7 +109,7 @@ impl Place<'_> {
 
     /// The largest book with all costs at a limit, and random books.
     fn random_books(&mut self, random: &mut Random, version: u16, limit: i64) {
-        let most = book_file(version, &vec![vec![Some(limit); 32]; 32]);
+        let most = book_file(version, &Costs::all_at(32, 32, limit));
         let full = amounts_file(32, 32, &[1_000_000_000; 64]);
         for more in [0, 1, 2, 1_000] {
             self.check(Some(&long(&most, more)), Some(&full));

@@ -1,6 +1,7 @@
 //! Costs and books of version 2 to try, made from costs of version 1.
+use crate::costs::{rows, Costs, NO};
 use crate::files::book_file;
-use crate::samples::{rows, Costs, Random, NO};
+use crate::samples::Random;
 
 const COST_LIMIT: i64 = 1_000_000;
 
@@ -27,15 +28,13 @@ impl Shift {
             3 => -greatest - 1,
             4 => -least - random.cost((greatest - least) as u64 + 1),
             5 => any(random),
-            _ => return Shift { times, plus: costs[0].iter().map(|_| any(random)).collect() },
+            _ => return Shift { times, plus: (0..costs.calls).map(|_| any(random)).collect() },
         };
-        Shift { times, plus: vec![number.clamp(lowest, highest); costs[0].len()] }
+        Shift { times, plus: vec![number.clamp(lowest, highest); costs.calls] }
     }
 
     pub fn of(&self, costs: &Costs) -> Costs {
-        let row =
-            |row: &Vec<Option<i64>>| row.iter().zip(&self.plus).map(|(cost, plus)| cost.map(|cost| self.times * cost + plus)).collect();
-        costs.iter().map(row).collect()
+        costs.with(|_, j, cost| self.times * cost + self.plus[j])
     }
 }
 
@@ -59,8 +58,8 @@ pub fn stored_rebates() -> Vec<Vec<u8>> {
         rows(&[&[-1_000_000, 1_000_000], &[1_000_000, -1_000_000]]),
         rows(&[&[-1]]),
         rows(&[&[3, NO, -7, -256], &[NO, NO, NO, NO], &[NO, 9, NO, -65_536]]),
-        vec![(0..32).map(|call| Some(-call)).collect()],
-        vec![vec![Some(-5)]; 32],
+        Costs::of(1, 32, |_, j| Some(-(j as i64))),
+        Costs::all_at(32, 1, -5),
     ];
     books.iter().map(|costs| book_file(2, costs)).collect()
 }

@@ -1,12 +1,13 @@
 //! Books of version 1, and the same relabelled as version 2 with their costs shifted: the library has to say the same of both, but for the
 //! cost of a pair, and for the cost of a run, which is shifted once for each unit.
+use crate::costs::{pairs, Costs};
 use crate::direct::{check, found, lot_costs, pair_cost, read, run};
 use crate::families::each_book;
 use crate::files::{amounts_file, book_file, order_file};
 use crate::library::{Comparison, IDLE, PLAIN};
 use crate::rebates::Shift;
 use crate::reference::Pair;
-use crate::samples::{all, all_books, amounts, costs, pairs, permutations, Costs, Random, KINDS};
+use crate::samples::{all, all_books, amounts, costs, permutations, Random, KINDS};
 use crate::sys::Reply;
 
 /// A book of version 1, and the same of version 2.

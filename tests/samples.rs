@@ -1,8 +1,7 @@
 //! Books, orders and amounts to try, from a fixed seed.
+use crate::costs::{rows, Costs, NO};
 use crate::files::book_file;
 use crate::reference::Pair;
-
-pub type Costs = Vec<Vec<Option<i64>>>;
 
 pub struct Random(pub u64);
 
@@ -84,14 +83,14 @@ pub const KINDS: [Kind; 9] = [
 fn monge(random: &mut Random, lots: usize, calls: usize) -> Costs {
     let (a, b, w) = (random.costs(lots, 50), random.costs(calls, 50), random.cost(4));
     let top = w * (lots * calls) as i64;
-    (0..lots).map(|i| (0..calls).map(|j| Some(top + a[i] + b[j] - w * (i * j) as i64)).collect()).collect()
+    Costs::of(lots, calls, |i, j| Some(top + a[i] + b[j] - w * (i * j) as i64))
 }
 
 pub fn permuted(random: &mut Random, mut costs: Costs) -> Costs {
-    let mut columns: Vec<usize> = (0..costs[0].len()).collect();
+    let mut columns: Vec<usize> = (0..costs.calls).collect();
     random.shuffle(&mut columns);
     random.shuffle(&mut costs);
-    costs.iter().map(|row| columns.iter().map(|&j| row[j]).collect()).collect()
+    Costs::of(costs.len(), costs.calls, |i, j| costs[i][columns[j]])
 }
 
 fn permuted_monge(random: &mut Random, lots: usize, calls: usize) -> Costs {
@@ -102,19 +101,17 @@ fn permuted_monge(random: &mut Random, lots: usize, calls: usize) -> Costs {
 /// Moves each lot's costs by as much as makes one call cost all its lots the same, and all costs so that the least is 0. Differences
 /// within a lot stay, so an order stays one; and an idle call is like that call. A book whose costs would exceed the limit stays.
 pub fn even(random: &mut Random, costs: &mut Costs) {
-    let call = random.below(costs[0].len() as u64) as usize;
-    let moved = |row: &Vec<Option<i64>>, cost: i64| cost - row[call].unwrap_or(0);
-    let each = || costs.iter().flat_map(|row| row.iter().flatten().map(|&cost| moved(row, cost)));
-    let (least, greatest) = (each().min().unwrap_or(0), each().max().unwrap_or(0));
+    let call = random.below(costs.calls as u64) as usize;
+    let moved = costs.with(|i, _, cost| cost - costs[i][call].unwrap_or(0));
+    let each = || moved.iter().flatten().flatten();
+    let (least, greatest) = (each().min().copied().unwrap_or(0), each().max().copied().unwrap_or(0));
     if greatest - least <= 1_000_000 {
-        *costs = costs.iter().map(|row| row.iter().map(|cost| cost.map(|cost| moved(row, cost) - least)).collect()).collect();
+        *costs = moved.with(|_, _, cost| cost - least);
     }
 }
 
 pub fn costs(random: &mut Random, kind: Kind, lots: usize, calls: usize) -> Costs {
-    let mut each = |cell: &mut dyn FnMut(&mut Random) -> Option<i64>| -> Costs {
-        (0..lots).map(|_| (0..calls).map(|_| cell(random)).collect()).collect()
-    };
+    let mut each = |cell: &mut dyn FnMut(&mut Random) -> Option<i64>| Costs::of(lots, calls, |_, _| cell(random));
     match kind {
         Kind::Dense => each(&mut |r| Some(r.cost(10))),
         Kind::Sparse => each(&mut |r| r.chance(30).then(|| r.cost(4))),
@@ -125,7 +122,7 @@ pub fn costs(random: &mut Random, kind: Kind, lots: usize, calls: usize) -> Cost
         Kind::SumWithGaps => {
             let (a, b) = (random.costs(lots, 20), random.costs(calls, 20));
             let percent = random.pick(&[80, 95]);
-            (0..lots).map(|i| (0..calls).map(|j| random.chance(percent).then_some(a[i] + b[j])).collect()).collect()
+            Costs::of(lots, calls, |i, j| random.chance(percent).then_some(a[i] + b[j]))
         }
         Kind::Staircase => {
             let mut costs = monge(random, lots, calls);
@@ -147,7 +144,7 @@ pub fn costs(random: &mut Random, kind: Kind, lots: usize, calls: usize) -> Cost
 /// Amounts for a book: few units or none, at the limits, or those of some allocation, so that all can be met; at times with a unit more, or
 /// with stock to spare.
 pub fn amounts(random: &mut Random, costs: &Costs) -> Vec<u64> {
-    let (lots, calls) = (costs.len(), costs[0].len());
+    let (lots, calls) = costs.size();
     match random.below(5) {
         0 => {
             let bound = random.pick(&[1, 4, 4, 4]);
@@ -175,11 +172,6 @@ pub fn amounts(random: &mut Random, costs: &Costs) -> Vec<u64> {
     }
 }
 
-pub fn pairs(costs: &Costs) -> Vec<Pair> {
-    let each = (0..costs.len()).flat_map(|i| (0..costs[0].len()).map(move |j| (i, j)));
-    each.filter(|&(i, j)| costs[i][j].is_some()).collect()
-}
-
 /// All lists of `count` items, each from `choices`.
 pub fn all<T: Copy>(choices: &[T], count: usize) -> Vec<Vec<T>> {
     (0..count).fold(vec![Vec::new()], |lists, _| {
@@ -189,7 +181,7 @@ pub fn all<T: Copy>(choices: &[T], count: usize) -> Vec<Vec<T>> {
 
 /// All books of a size with cells from `choices`.
 pub fn all_books(lots: usize, calls: usize, choices: &[Option<i64>]) -> Vec<Costs> {
-    all(choices, lots * calls).iter().map(|cells| cells.chunks(calls).map(<[_]>::to_vec).collect()).collect()
+    all(choices, lots * calls).iter().map(|cells| Costs::of(lots, calls, |i, j| cells[i * calls + j])).collect()
 }
 
 pub fn permutations(items: &[Pair]) -> Vec<Vec<Pair>> {
@@ -233,14 +225,6 @@ fn damaged_twice(file: &[u8]) -> impl Iterator<Item = Vec<u8>> + '_ {
     })
 }
 
-/// In the place of a cost: the pair is not eligible.
-pub const NO: i64 = i64::MAX;
-
-/// A book by rows of costs.
-pub fn rows(rows: &[&[i64]]) -> Costs {
-    rows.iter().map(|row| row.iter().map(|&cost| (cost != NO).then_some(cost)).collect()).collect()
-}
-
 /// Books for the damage: small ones, one with every bit of a word, and one with gaps.
 pub fn stored_books() -> Vec<Vec<u8>> {
     vec![
@@ -251,7 +235,7 @@ pub fn stored_books() -> Vec<Vec<u8>> {
         book_file(1, &rows(&[&[NO]])),
         book_file(1, &rows(&[&[1_000_000]])),
         book_file(1, &rows(&[&[3, NO, 7, 256], &[NO, NO, NO, NO], &[NO, 9, NO, 65_536]])),
-        book_file(1, &vec![(0..32).map(Some).collect(); 1]),
-        book_file(1, &vec![vec![Some(5)]; 32]),
+        book_file(1, &Costs::of(1, 32, |_, j| Some(j as i64))),
+        book_file(1, &Costs::all_at(32, 1, 5)),
     ]
 }

@@ -1,9 +1,10 @@
 //! What is tried, in sections. Each calls the library by a `Comparison`.
+use crate::costs::{pairs, Costs};
 use crate::files::{amounts_file, book_file, order_file};
 use crate::library::Comparison;
 use crate::rebates::in_version;
 use crate::reference::Pair;
-use crate::samples::{all, all_books, amounts, costs, damaged, pairs, permutations, Costs, Kind, Random, KINDS};
+use crate::samples::{all, all_books, amounts, costs, damaged, permutations, Kind, Random, KINDS};
 use crate::wrong::Wrong;
 
 const FAR: [usize; 6] = [32, 255, 256, 1 << 32, (1 << 32) + 1, usize::MAX];
@@ -145,8 +146,8 @@ pub fn damage(c: &mut Comparison, books: &[Vec<u8>]) {
     for book in books {
         all_pairs(c, book);
         let (lots, calls) = (book[5] as usize, book[6] as usize);
-        let costs = Wrong::Nothing.read_book(book).unwrap_or_else(|_| unreachable!()).costs;
-        let order = order_file(&some_order(&costs));
+        let read = Wrong::Nothing.read_book(book).unwrap_or_else(|_| unreachable!());
+        let order = order_file(&some_order(&Costs::of(lots, calls, |i, j| read.costs[i][j])));
         let (stock, wanted) = (random.numbers(lots, 5), random.numbers(calls, 5));
         let amounts = amounts_file(lots, calls, &stock.iter().map(|units| units + 4).chain(wanted).collect::<Vec<_>>());
         let flow = random.entries(lots * calls + 2);
@@ -174,7 +175,7 @@ pub fn damage(c: &mut Comparison, books: &[Vec<u8>]) {
 
 /// The largest books with so many calls, all at one cost: every amount at its limit, and only those of the lots.
 pub fn largest(c: &mut Comparison, random: &mut Random, version: u16, cost: i64, calls: usize) {
-    let costs = vec![vec![Some(cost); calls]; 32];
+    let costs = Costs::all_at(32, calls, cost);
     let (book, order) = (book_file(version, &costs), order_file(&pairs(&costs)));
     for wanted in [1_000_000_000, 0] {
         let amounts = amounts_file(32, calls, &[vec![1_000_000_000; 32], vec![wanted; calls]].concat());
@@ -197,7 +198,7 @@ pub fn largest(c: &mut Comparison, random: &mut Random, version: u16, cost: i64,
 pub fn limits(c: &mut Comparison) {
     let random = &mut Random(4);
     for (lots, calls) in [(1, 1), (2, 3), (1, 32), (32, 1)] {
-        let zeros = vec![vec![Some(0); calls]; lots];
+        let zeros = Costs::all_at(lots, calls, 0);
         let order = order_file(&pairs(&zeros));
         for cost in [999_999, 1_000_000, 1_000_001, 1 << 31, (1 << 32) - 1] {
             for &(i, j) in &pairs(&zeros) {
@@ -226,7 +227,7 @@ pub fn limits(c: &mut Comparison) {
 pub fn long_orders(c: &mut Comparison) {
     let random = &mut Random(5);
     for (lots, calls) in [(1, 1), (2, 2), (5, 4), (32, 32)] {
-        let costs = vec![vec![Some(0); calls]; lots];
+        let costs = Costs::all_at(lots, calls, 0);
         let (book, own) = (book_file(1, &costs), pairs(&costs));
         for count in [255, 256, 300, 1023, 1024, 1025, 4096, 32_768, 65_535] {
             let repeated: Vec<Pair> = own.iter().cycle().take(count).copied().collect();

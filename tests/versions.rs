@@ -1,7 +1,8 @@
 //! The versions of the three files, costs about the ends of either version's range, and the largest books of version 2.
+use crate::costs::{pairs, rows, Costs};
 use crate::files::{amounts_file, book_file, order_file, relabelled};
 use crate::library::Comparison;
-use crate::samples::{all_books, pairs, rows, Costs, Random};
+use crate::samples::{all_books, Random};
 use crate::sections::{every_entry, largest, some_order};
 
 const VERSIONS: [u16; 11] = [0, 1, 2, 3, 255, 256, 257, 258, 513, 32_770, 65_535];
@@ -29,7 +30,7 @@ pub fn versions(c: &mut Comparison) {
 
 /// One book in either version.
 fn in_both(c: &mut Comparison, random: &mut Random, costs: &Costs) {
-    let (lots, calls) = (costs.len(), costs[0].len());
+    let (lots, calls) = costs.size();
     let order = order_file(&some_order(costs));
     let amounts = amounts_file(lots, calls, &[vec![2; lots], random.numbers(calls, 3)].concat());
     let flow = random.entries(lots * calls);
@@ -42,7 +43,7 @@ fn in_both(c: &mut Comparison, random: &mut Random, costs: &Costs) {
 pub fn cost_limits(c: &mut Comparison) {
     let random = &mut Random(81);
     for (lots, calls) in [(1, 1), (2, 3), (1, 32), (32, 1)] {
-        let zeros = vec![vec![Some(0); calls]; lots];
+        let zeros = Costs::all_at(lots, calls, 0);
         for (i, j) in pairs(&zeros) {
             for bits in BITS {
                 let mut costs = zeros.clone();
