@@ -2,6 +2,7 @@
 //! verdicts promise and request 2 by brute force. The seed is fixed, so every run is the same. Parts run at the same time in several
 //! threads, as the library allows. The last line is `tests: N cases, D differences`; the exit status is 0 only if D is 0, each number and
 //! each verdict came, and each wrong reference was noticed. A digest of replies and writes is another where a landing changes one of them.
+mod checking;
 mod costs;
 mod demand3;
 mod direct;
@@ -10,6 +11,7 @@ mod files;
 mod idle;
 mod known;
 mod library;
+mod new_desks;
 mod placing;
 mod program;
 mod rebates;
@@ -23,7 +25,7 @@ mod sys;
 mod versions;
 mod wrong;
 
-use library::{Comparison, Tallies, Tally, IDLE, PLACE};
+use library::{Books, Comparison, Tallies, Tally, IDLE, PLACE};
 use std::collections::hash_map::DefaultHasher;
 use std::hash::Hasher;
 use std::path::Path;
@@ -31,6 +33,9 @@ use std::sync::atomic::{AtomicUsize, Ordering};
 use std::sync::Mutex;
 use std::time::Instant;
 use wrong::{Wrong, WRONG};
+
+/// In the place of a number: a run's cost is below zero.
+const BELOW_ZERO: usize = 20;
 
 /// The cells of the small books of version 1.
 const SMALL: [Option<i64>; 4] = [None, Some(0), Some(1), Some(2)];
@@ -40,7 +45,7 @@ type Work<'a> = Box<dyn Fn(&mut Comparison) + Sync + 'a>;
 /// What a part came to.
 struct Outcome {
     tallies: Tallies,
-    digests: [u64; 2],
+    digests: [u64; 3],
     seconds: f64,
 }
 
@@ -84,11 +89,20 @@ fn run_all(parts: &[(Wrong, Work)]) -> Vec<Outcome> {
     outcomes.into_iter().map(|(_, done)| done).collect()
 }
 
-/// One digest of what the library replied and wrote in all parts, with books of version 2 or with others.
-fn digest(outcomes: &[Outcome], books: usize) -> u64 {
+/// One digest of several.
+fn digest(digests: impl Iterator<Item = u64>) -> u64 {
     let mut all = DefaultHasher::new();
-    outcomes.iter().for_each(|done| all.write_u64(done.digests[books]));
+    digests.for_each(|digest| all.write_u64(digest));
     all.finish()
+}
+
+/// Prints digests of what the library replied and wrote: in the parts from before request 5 with books of lots and calls, and with all else.
+fn print_digests(before: &[Outcome], request_5: &[Outcome]) {
+    let with = |books: Books| before.iter().map(move |done| done.digests[books as usize]);
+    println!("replies and writes with books of version 2: {:016x}", digest(with(Books::Version2)));
+    println!("replies and writes with all other books: {:016x}", digest(with(Books::Other)));
+    let new_desks = with(Books::NewDesk).chain(request_5.iter().flat_map(|done| done.digests));
+    println!("replies and writes with books without lots or calls, and in the parts of request 5: {:016x}", digest(new_desks));
 }
 
 /// Whether a wrong reference was noticed: by each of these entry points, or by any where none is named.
@@ -99,9 +113,14 @@ fn noticed(tallies: &Tallies, names: &[&str]) -> bool {
 
 /// The cases in which a wrong reference is to be noticed: it stops once it is.
 fn notice(c: &mut Comparison, names: &[&str], path: &Path) {
-    let parts: [&dyn Fn(&mut Comparison); 9] = [
-        &|c| sections::random_books(c, 1, 200, 6, 2),
-        &|c| sections::random_books(c, 2, 200, 6, 2),
+    let parts: [&dyn Fn(&mut Comparison); 14] = [
+        &new_desks::few,
+        &new_desks::known,
+        &|c| new_desks::counts(c, &[0, 1, 33]),
+        &|c| new_desks::words(c, 2),
+        &new_desks::amounts,
+        &|c| sections::random_books(c, 1, 200, (1, 6), 2),
+        &|c| sections::random_books(c, 2, 200, (1, 6), 2),
         &|c| sections::damage(c, &samples::stored_books()[..4]),
         &sections::limits,
         &|c| sections::small_books(c, 1, &SMALL),
@@ -110,7 +129,8 @@ fn notice(c: &mut Comparison, names: &[&str], path: &Path) {
         &versions::versions,
         &|c| {
             if names.contains(&PLACE) {
-                program::rebates(c, path)
+                program::rebates(c, path);
+                program::new_desks(c, path)
             }
         },
     ];
@@ -128,9 +148,9 @@ fn parts_of_version_1<'a>() -> Vec<(&'a str, Work<'a>)> {
         ("damaged files", Box::new(|c| sections::damage(c, &samples::stored_books()))),
         ("books up to 2 by 2", Box::new(|c| sections::small_books(c, 1, &SMALL))),
         ("books of 3 by 3", Box::new(|c| sections::three_by_three(c, 1, &SMALL[..3]))),
-        ("random books to 8 by 8", Box::new(|c| sections::random_books(c, 1, 4_000, 8, 6))),
-        ("random books to 16 by 16", Box::new(|c| sections::random_books(c, 1, 2_000, 16, 6))),
-        ("random books to 32 by 32", Box::new(|c| sections::random_books(c, 1, 600, 32, 6))),
+        ("random books to 8 by 8", Box::new(|c| sections::random_books(c, 1, 4_000, (1, 8), 6))),
+        ("random books to 16 by 16", Box::new(|c| sections::random_books(c, 1, 2_000, (1, 16), 6))),
+        ("random books to 32 by 32", Box::new(|c| sections::random_books(c, 1, 600, (1, 32), 6))),
         ("largest books", Box::new(|c| sections::largest_books(c, 1))),
         ("families to 12 by 12", Box::new(|c| families::families(c, 1, 6, &[1, 2, 3, 4, 5, 6, 7, 8, 9, 10, 11, 12]))),
         ("limits", Box::new(sections::limits)),
@@ -150,9 +170,9 @@ fn parts_of_version_2<'a>() -> Vec<(&'a str, Work<'a>)> {
         ("version 2, damaged files", Box::new(|c| sections::damage(c, &rebates::stored_rebates()))),
         ("version 2, books up to 2 by 2", Box::new(|c| sections::small_books(c, 2, &[None, Some(-1), Some(0), Some(1)]))),
         ("version 2, books of 3 by 3", Box::new(|c| sections::three_by_three(c, 2, &[None, Some(-1), Some(0)]))),
-        ("version 2, random books to 8 by 8", Box::new(|c| sections::random_books(c, 2, 4_000, 8, 6))),
-        ("version 2, random books to 16 by 16", Box::new(|c| sections::random_books(c, 2, 1_000, 16, 6))),
-        ("version 2, random books to 32 by 32", Box::new(|c| sections::random_books(c, 2, 400, 32, 6))),
+        ("version 2, random books to 8 by 8", Box::new(|c| sections::random_books(c, 2, 4_000, (1, 8), 6))),
+        ("version 2, random books to 16 by 16", Box::new(|c| sections::random_books(c, 2, 1_000, (1, 16), 6))),
+        ("version 2, random books to 32 by 32", Box::new(|c| sections::random_books(c, 2, 400, (1, 32), 6))),
         ("version 2, largest books", Box::new(|c| sections::largest_books(c, 2))),
         ("version 2, largest costs", Box::new(versions::largest_costs)),
         ("costs about the limits of either version", Box::new(versions::cost_limits)),
@@ -164,34 +184,56 @@ fn parts_of_version_2<'a>() -> Vec<(&'a str, Work<'a>)> {
     ]
 }
 
-/// All parts. Those of the printing program are the last ones, where it is built.
-fn all_parts(path: &Path) -> Vec<(&str, Work<'_>)> {
-    let mut parts = parts_of_version_1();
-    parts.extend(parts_of_version_2());
+/// The parts of request 5, of both versions.
+fn parts_of_request_5<'a>() -> Vec<(&'a str, Work<'a>)> {
+    vec![
+        ("random books from 0 by 0 to 3 by 3", Box::new(|c| sections::random_books(c, 1, 4_000, (0, 3), 6))),
+        ("version 2, random books from 0 by 0 to 3 by 3", Box::new(|c| sections::random_books(c, 2, 4_000, (0, 3), 6))),
+        ("no lots or calls, small amounts", Box::new(new_desks::few)),
+        ("no lots or calls, every book", Box::new(new_desks::every_book)),
+        ("no lots or calls, orders", Box::new(new_desks::orders)),
+        ("no lots or calls, damaged files", Box::new(new_desks::damaged)),
+        ("every two counts", Box::new(|c| new_desks::counts(c, &(0..=255).collect::<Vec<_>>()))),
+        ("words without calls", Box::new(|c| new_desks::words(c, 32))),
+        ("amounts of each two counts", Box::new(new_desks::amounts)),
+        ("no lots or calls, versions of each file", Box::new(new_desks::every_version)),
+        ("no lots or calls, demand 3 and request 2 by brute force", Box::new(new_desks::brute_force)),
+        ("no lots or calls, known replies", Box::new(new_desks::known)),
+    ]
+}
+
+/// The parts from before request 5, and those of it. In each the printing program's are the last ones, where it is built.
+fn all_parts(path: &Path) -> [Vec<(&str, Work<'_>)>; 2] {
+    let mut before = parts_of_version_1();
+    before.extend(parts_of_version_2());
+    let mut request_5 = parts_of_request_5();
     if path.is_file() {
-        parts.push(("printing program", Box::new(move |c| program::program(c, path))));
-        parts.push(("version 2, printing program", Box::new(move |c| program::rebates(c, path))));
+        before.push(("printing program", Box::new(move |c| program::program(c, path))));
+        before.push(("version 2, printing program", Box::new(move |c| program::rebates(c, path))));
+        request_5.push(("no lots or calls, printing program", Box::new(move |c| program::new_desks(c, path))));
     } else {
         println!("printing program: SKIPPED, it is not built");
     }
-    parts
+    [before, request_5]
 }
 
-/// Prints how often each number and each verdict came, in all, with books of version 2, and in the run with an idle call, which meets no
-/// order's numbers; the count of those that never did.
+/// Prints how often each number and each verdict came: in all; with books of version 2; with books without lots or calls, which have no
+/// pairs and no costs; and in the run with an idle call, which meets no order's numbers. The count of those that never did.
 fn unseen(outcomes: &[Outcome]) -> u64 {
     let each = || outcomes.iter().flat_map(|done| &done.tallies);
-    let tallies: [(&str, Tally, &[usize]); 3] = [
+    let with = |books: Books| sum(each().filter(|(key, _)| key.1 == books).map(|(_, tally)| tally));
+    let tallies: [(&str, Tally, &[usize]); 4] = [
         ("all", sum(each().map(|(_, tally)| tally)), &[]),
-        ("books of version 2", sum(each().filter(|(key, _)| key.1).map(|(_, tally)| tally)), &[]),
+        ("books of version 2", with(Books::Version2), &[]),
+        ("books without lots or calls", with(Books::NewDesk), &[7, 10, 11, 12, 13, 14, BELOW_ZERO]),
         (IDLE.name, sum(each().filter(|(key, _)| key.0 == IDLE.name).map(|(_, tally)| tally)), &[9, 10, 11, 12, 14]),
     ];
     let print = |(name, tally, never): (&str, Tally, &[usize])| {
         let ([_, full, short, covered], numbers) = (tally.verdicts, tally.numbers);
         print!("{name}: {} cases, accepted {}; refused by 1 to 19: {:?}; ", tally.cases, numbers[0], &numbers[1..]);
         println!("runs full {full}, short {short}, covered {covered}, costs below zero {}", tally.below_zero);
-        let expected = (0..numbers.len()).filter(|number| !never.contains(number)).map(|number| numbers[number]);
-        expected.chain(tally.verdicts).chain([tally.below_zero]).filter(|&times| times == 0).count() as u64
+        let expected = numbers.into_iter().chain([tally.below_zero]).enumerate().filter(|(number, _)| !never.contains(number));
+        expected.map(|(_, times)| times).chain(tally.verdicts).filter(|&times| times == 0).count() as u64
     };
     tallies.into_iter().map(print).sum()
 }
@@ -208,7 +250,9 @@ fn missed(path: &Path) -> (Vec<Wrong>, usize) {
 
 fn main() {
     let path = std::env::args().nth(1).unwrap_or_default();
-    let (names, works): (Vec<&str>, Vec<Work>) = all_parts(Path::new(&path)).into_iter().unzip();
+    let parts = all_parts(Path::new(&path));
+    let before = parts[0].len();
+    let (names, works): (Vec<&str>, Vec<Work>) = parts.into_iter().flatten().unzip();
     let outcomes = run_all(&works.into_iter().map(|work| (Wrong::Nothing, work)).collect::<Vec<_>>());
     let (mut cases, mut differences) = (0, 0);
     for (name, done) in names.iter().zip(&outcomes) {
@@ -218,8 +262,7 @@ fn main() {
         differences += tally.differences;
     }
     differences += unseen(&outcomes);
-    println!("replies and writes with books of version 2: {:016x}", digest(&outcomes, 0));
-    println!("replies and writes with all other books: {:016x}", digest(&outcomes, 1));
+    print_digests(&outcomes[..before], &outcomes[before..]);
 
     let (missed, wrong) = missed(Path::new(&path));
     println!("wrong references: {} of {wrong} noticed", wrong - missed.len());

@@ -37,7 +37,7 @@ impl Wrong {
 
     /// 18, then 19: what is refused after the amounts' other checks and before 17.
     fn idle_refused(self, book: &Book, lots: u64, calls: u64, flow: &[u32]) -> Result<(), Refused> {
-        let too_short = flow.len() < book.lots * book.calls;
+        let too_short = flow.len() < self.entries(book);
         let mut causes = vec![(18, calls > lots), (19, book.calls == 32)];
         match self {
             Wrong::EqualTotalsRefused => causes[0].1 = calls >= lots,
@@ -45,6 +45,9 @@ impl Wrong {
             Wrong::IdleAmountWithinLimit => causes.push((16, lots > calls + 1_000_000_000)),
             Wrong::NoIdleCallByLots => causes[1].1 = book.lots == 32,
             Wrong::NoIdleCallBeforeTotals => causes.reverse(),
+            Wrong::NoIdleCallBeforeTotalsWithoutLots if book.lots == 0 => causes.reverse(),
+            Wrong::NoIdleCallWithoutCalls => causes[1].1 |= book.calls == 0,
+            Wrong::TotalsNotLookedAtWithoutLots => causes[0].1 &= book.lots > 0,
             Wrong::ShortBufferBeforeTotals => causes.insert(0, (17, too_short)),
             Wrong::ShortBufferBeforeNoIdleCall => causes.insert(1, (17, too_short)),
             _ => (),
@@ -79,8 +82,8 @@ impl Wrong {
         let amounts = read?;
         let (lots, calls) = (total(&amounts[..book.lots]), total(&amounts[book.lots..]));
         self.idle_refused(&book, lots, calls, flow)?;
-        let width = if self == Wrong::ShortBufferWithIdleCall { book.calls + 1 } else { book.calls };
-        let pairs = self.idle_order(&book, flow.len() < book.lots * width)?;
+        let idle_entries = if self == Wrong::ShortBufferWithIdleCall { book.lots } else { 0 };
+        let pairs = self.idle_order(&book, flow.len() < self.entries(&book) + idle_entries)?;
         let mut enlarged = amounts.clone();
         enlarged.insert(book.lots + self.idle_call(&book), self.idle_amount(lots, calls));
         let given = self.greedy(&self.enlarged(&book), &pairs, &enlarged);

@@ -98,15 +98,34 @@ pub struct Tally {
     pub below_zero: u64,
 }
 
-/// Tallies by the name of the entry point, other cases having none, and by whether the book is of version 2.
-pub type Tallies = BTreeMap<(&'static str, bool), Tally>;
+/// The books that are told apart in tallies and digests.
+#[derive(Clone, Copy, PartialEq, Eq, PartialOrd, Ord)]
+pub enum Books {
+    Version2,
+    Other,
+    /// Without lots or without calls, of whichever version.
+    NewDesk,
+}
+
+impl Books {
+    fn of(book: &[u8]) -> Books {
+        match (book.get(3..5), book.get(5..7)) {
+            (_, Some([0, _] | [_, 0])) => Books::NewDesk,
+            (Some([2, 0]), _) => Books::Version2,
+            _ => Books::Other,
+        }
+    }
+}
+
+/// Tallies by the name of the entry point, other cases having none, and by the book.
+pub type Tallies = BTreeMap<(&'static str, Books), Tally>;
 
 /// The library against the reference, or against a wrong one.
 pub struct Comparison {
     pub wrong: Wrong,
     pub tallies: Tallies,
-    /// Of every reply, and of the order buffer and the flow after it: with books of version 2, and with others.
-    streams: [DefaultHasher; 2],
+    /// Of every reply, and of the order buffer and the flow after it, by the book.
+    streams: [DefaultHasher; 3],
     book: Guarded,
     order: Guarded,
     amounts: Guarded,
@@ -138,14 +157,13 @@ impl Comparison {
         Comparison { wrong, tallies: Tallies::new(), streams: Default::default(), book, order, amounts, flow }
     }
 
-    /// Digests of what the library replied and wrote, with books of version 2 and with others: two builds that reply and write alike have
-    /// the same.
-    pub fn digests(&self) -> [u64; 2] {
-        [self.streams[0].finish(), self.streams[1].finish()]
+    /// Digests of what the library replied and wrote, by the book: two builds that reply and write alike have the same.
+    pub fn digests(&self) -> [u64; 3] {
+        [0, 1, 2].map(|books| self.streams[books].finish())
     }
 
-    fn tally(&mut self, name: &'static str, version_2: bool, same: bool, what: impl Fn() -> String) -> &mut Tally {
-        let tally = self.tallies.entry((name, version_2)).or_default();
+    fn tally(&mut self, name: &'static str, books: Books, same: bool, what: impl Fn() -> String) -> &mut Tally {
+        let tally = self.tallies.entry((name, books)).or_default();
         tally.cases += 1;
         tally.differences += !same as u64;
         if !same && self.wrong == Wrong::Nothing && tally.differences <= 5 {
@@ -156,12 +174,12 @@ impl Comparison {
 
     /// A case of no entry point by itself.
     pub fn count(&mut self, same: bool, what: impl Fn() -> String) {
-        self.tally("", false, same, what);
+        self.tally("", Books::Other, same, what);
     }
 
     /// A case of the printing program.
     pub fn count_printed(&mut self, same: bool, what: impl Fn() -> String) {
-        self.tally(PLACE, false, same, what);
+        self.tally(PLACE, Books::Other, same, what);
     }
 
     fn compare(
@@ -174,8 +192,8 @@ impl Comparison {
     ) {
         let parts = (self.book.put(lent.book), self.order.put(lent.order), self.amounts.put(lent.amounts), self.flow.put(lent.flow));
         let got = call(parts.0, parts.1, parts.2, parts.3);
-        let version_2 = lent.book.get(3..5) == Some(&[2, 0]);
-        let stream = &mut self.streams[!version_2 as usize];
+        let books = Books::of(lent.book);
+        let stream = &mut self.streams[books as usize];
         (got.number, got.verdict, got.values, self.order.items(parts.1), self.flow.items(parts.3)).hash(stream);
         let same = got == expected
             && self.book.holds(after.book)
@@ -183,7 +201,7 @@ impl Comparison {
             && self.amounts.holds(after.amounts)
             && self.flow.holds(after.flow);
         let what = || format!("{name}\n  lent {lent:?}\n  got {got:?}\n  expected {expected:?} and {after:?}");
-        let tally = self.tally(name, version_2, same, what);
+        let tally = self.tally(name, books, same, what);
         tally.numbers[expected.number as usize] += 1;
         tally.verdicts[expected.verdict as usize] += 1;
         tally.below_zero += (expected.verdict > 0 && (expected.values[1] as i64) < 0) as u64;

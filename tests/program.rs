@@ -3,6 +3,7 @@ use crate::costs::{rows, Costs};
 use crate::files::{amounts_file, book_file};
 use crate::known::{known_rebates, known_runs, one_unit, Known};
 use crate::library::Comparison;
+use crate::new_desks::{desk, known_desks, sizes};
 use crate::rebates::{in_version, stored_rebates};
 use crate::samples::{amounts, costs, stored_books, Random, KINDS};
 use std::fs;
@@ -155,5 +156,28 @@ pub fn rebates(c: &mut Comparison, program: &Path) {
         place.known_runs(2, [known_rebates(), known_runs()].concat());
         place.known(&stored_rebates()[0], &amounts_file(2, 2, &[5, 4, 3, 6]), "FULL 9 -14\n0 1 5\n1 0 3\n1 1 1\n");
         place.known(&book_file(2, &rows(&[&[-1, 1]])), &amounts_file(1, 2, &[2, 1, 1]), "FULL 2 0\n0 0 1\n0 1 1\n");
+    });
+}
+
+/// Books without lots or calls print one line alone.
+pub fn new_desks(c: &mut Comparison, program: &Path) {
+    with_place(c, program, |place| {
+        let random = &mut Random(8);
+        for version in [1, 2] {
+            for ((lots, calls), amounts, verdict, _) in known_desks() {
+                let (book, amounts) = (book_file(version, &desk(lots, calls)), amounts_file(lots, calls, &amounts));
+                place.known(&book, &amounts, &format!("{} 0 0\n", verdict.word()));
+            }
+            for (lots, calls) in sizes() {
+                let amounts = amounts_file(lots, calls, &random.numbers(lots + calls, 2));
+                place.check(Some(&book_file(version, &desk(lots, calls))), Some(&amounts));
+            }
+            let some = [(0, 0), (0, 1), (1, 0), (0, 32), (32, 0)];
+            place.stored(random, some.iter().map(|&(lots, calls)| book_file(version, &desk(lots, calls))).collect());
+        }
+        for (lots, calls, refused) in [(0, 33, 4), (33, 0, 4), (2, 0, 6)] {
+            place.known(&[b'C', b'L', b'B', 1, 0, lots, calls], &[], &format!("REFUSED {refused}\n"));
+        }
+        place.known(&[&book_file(1, &desk(1, 0))[..10], &[1]].concat(), &[], "REFUSED 5\n");
     });
 }

@@ -7,9 +7,6 @@ pub type Refused = (u32, Vec<u64>);
 
 pub type Pair = (usize, usize);
 
-/// The place of each pair in an order.
-type Places = Vec<Vec<Option<usize>>>;
-
 /// A readable book: the cost of each pair, `None` where it is not eligible, and where in the file each lot's word stands.
 #[derive(Clone)]
 pub struct Book {
@@ -18,6 +15,13 @@ pub struct Book {
     pub calls: usize,
     pub costs: Vec<Vec<Option<i64>>>,
     pub words: Vec<usize>,
+}
+
+impl Book {
+    /// No lots or no calls: there is no pair.
+    pub fn is_new_desk(&self) -> bool {
+        self.lots == 0 || self.calls == 0
+    }
 }
 
 pub fn refuse<T>(number: u32, values: &[usize]) -> Result<T, Refused> {
@@ -45,7 +49,7 @@ impl Wrong {
     }
 
     /// The version of a file that opens as it must.
-    fn opening(self, file: &[u8], mark: &[u8; 3]) -> Result<usize, Refused> {
+    pub fn opening(self, file: &[u8], mark: &[u8; 3]) -> Result<usize, Refused> {
         if self == Wrong::MarkBeforeLength && file.len() >= 3 && &file[..3] != mark {
             return refuse(2, &[]);
         }
@@ -82,19 +86,31 @@ impl Wrong {
         (cost >= least && !self.too_high(cost, most)).then_some(cost)
     }
 
+    /// Whether a count is above 32.
+    fn count_outside(self, book: &Book) -> bool {
+        match self {
+            Wrong::NoLotsRefused if book.lots == 0 => true,
+            Wrong::NoCallsRefused if book.calls == 0 => true,
+            Wrong::NewDeskOfVersion1Alone if book.is_new_desk() && book.version == 2 => true,
+            Wrong::NewDeskOfVersion2Alone if book.is_new_desk() && book.version == 1 => true,
+            Wrong::CountAbove32BesideZero if book.is_new_desk() => false,
+            _ => book.lots > 32 || book.calls > 32,
+        }
+    }
+
     pub fn read_book(self, file: &[u8]) -> Result<Book, Refused> {
         let version = self.opening(file, b"CLB")?;
         let (lots, calls) = (file[5] as usize, file[6] as usize);
-        if lots == 0 || lots > 32 || calls == 0 || calls > 32 {
+        let mut book = Book { version, lots, calls, costs: Vec::new(), words: Vec::new() };
+        if self.count_outside(&book) {
             return refuse(4, &[]);
         }
-        let mut book = Book { version, lots, calls, costs: Vec::new(), words: Vec::new() };
         let mut at = 7;
-        for _ in 0..lots {
-            let row = self.row(&book, file, at)?;
+        for _ in 0..lots.max((self == Wrong::OneRowAtLeast) as usize) {
+            let (row, end) = self.row(&book, file, at)?;
             book.words.push(at);
-            at += 4 + 4 * row.iter().flatten().count();
             book.costs.push(row);
+            at = end;
         }
         if file.len() > at {
             return refuse(8, &[]);
@@ -102,16 +118,19 @@ impl Wrong {
         Ok(book)
     }
 
-    /// The row of the lot after those that were read, which starts at a byte of the file.
-    fn row(self, book: &Book, file: &[u8], at: usize) -> Result<Vec<Option<i64>>, Refused> {
+    /// The row of the lot after those that were read, which starts at a byte of the file, and where it ends.
+    fn row(self, book: &Book, file: &[u8], at: usize) -> Result<(Vec<Option<i64>>, usize), Refused> {
         let (lot, calls) = (book.costs.len(), book.calls);
+        if self == Wrong::NoRowsWithoutCalls && calls == 0 {
+            return Ok((Vec::new(), at));
+        }
         if file.len() < at + 4 {
             return refuse(6, &[]);
         }
-        let bits = word(file, at);
+        let bits = if self == Wrong::WordNotLookedAtWithoutCalls && calls == 0 { 0 } else { word(file, at) };
         let eligible: Vec<usize> = (0..32).filter(|&call| bits >> call & 1 == 1).collect();
         if eligible.iter().any(|&call| call >= calls) {
-            return refuse(5, &[lot]);
+            return refuse(5, &[if self == Wrong::LastLotNamedWithoutCalls && calls == 0 { book.lots - 1 } else { lot }]);
         }
         if self != Wrong::CostsOneByOne && file.len() < at + 4 + 4 * eligible.len() {
             return refuse(6, &[]);
@@ -127,7 +146,7 @@ impl Wrong {
                 return refuse(7, &[lot, if self == Wrong::PositionForCall { position } else { call }]);
             }
         }
-        Ok(row)
+        Ok((row, at + 4 + 4 * eligible.len()))
     }
 
     /// Start and length of the stretch of the file with a lot's costs.
@@ -137,6 +156,7 @@ impl Wrong {
                 let count = book.costs[lot].iter().flatten().count();
                 match self {
                     Wrong::StretchWithWord => (book.words[lot], 4 + 4 * count),
+                    Wrong::WordForCostsWithoutCalls if book.calls == 0 => (book.words[lot], 4),
                     _ if count == 0 && self != Wrong::EmptyStretchAtRow => (0, 0),
                     _ => (book.words[lot] + 4, 4 * count),
                 }
@@ -153,16 +173,26 @@ impl Wrong {
             Some(Some(cost)) if self == Wrong::PairCostIn32Bits => Ok((1, *cost as u32 as i64)),
             Some(Some(cost)) => Ok((1, *cost)),
             Some(None) if self == Wrong::NotEligibleCostsNothing => Ok((1, 0)),
+            None if self == Wrong::NewDeskCostsNothing && book.is_new_desk() => Ok((1, 0)),
             _ => Ok((0, 0)),
+        }
+    }
+
+    /// Whether the amounts' counts are others than the book's.
+    fn counts_differ(self, book: &Book, lots: usize, calls: usize) -> bool {
+        match self {
+            Wrong::NewDeskAmountsRefused if book.is_new_desk() => true,
+            Wrong::NewDesksAlike if book.is_new_desk() => lots > 0 && calls > 0,
+            _ => (lots, calls) != (book.lots, book.calls),
         }
     }
 
     pub fn amounts_of(self, book: &Book, file: &[u8]) -> Result<Vec<u64>, Refused> {
         self.opening(file, b"CLA")?;
-        if file[5] as usize != book.lots || file[6] as usize != book.calls {
+        if self.counts_differ(book, file[5] as usize, file[6] as usize) {
             return refuse(15, &[]);
         }
-        let count = book.lots + book.calls;
+        let count = (book.lots + book.calls).max((self == Wrong::OneAmountAtLeast) as usize);
         let size = 7 + 4 * count;
         if file.len() < size {
             return refuse(6, &[]);
@@ -172,7 +202,8 @@ impl Wrong {
             return refuse(8, &[]);
         }
         let amounts: Vec<usize> = (0..count).map(|k| word(file, 7 + 4 * k)).collect();
-        if amounts.iter().any(|&a| self.too_high(a as i64, 1_000_000_000)) {
+        let limited = self != Wrong::NewDeskWithoutAmountLimit || !book.is_new_desk();
+        if limited && amounts.iter().any(|&a| self.too_high(a as i64, 1_000_000_000)) {
             return refuse(16, &[]);
         }
         if too_long {
@@ -186,90 +217,5 @@ impl Wrong {
         let book = self.read_book(book)?;
         let amounts = self.amounts_of(&book, amounts)?;
         Ok((book, amounts))
-    }
-
-    /// The check's condition for one quadruple: the refusal's number where it fails.
-    pub fn crossing(self, book: &Book, (i, j): Pair, (k, l): Pair) -> Option<u32> {
-        let signed = |i: usize, j: usize| book.costs[i][j].unwrap_or(0);
-        let cost = |i: usize, j: usize| if self == Wrong::SumsUnsigned { signed(i, j) as u32 as i64 } else { signed(i, j) };
-        let (row, column) = if self == Wrong::CrossPairTurnedRound { (l, k) } else { (k, l) };
-        if book.costs.get(row).map_or(true, |costs| costs.get(column).map_or(true, Option::is_none)) {
-            match self {
-                Wrong::MissingPairCostsNothing => (),
-                Wrong::MissingPairPasses => return None,
-                _ => return Some(11),
-            }
-        }
-        if self == Wrong::OnlyLaterLotsAndCalls && (k < i || l < j) {
-            return None;
-        }
-        let own = if self == Wrong::CostOfTheOtherLot { k } else { i };
-        let (here, there) = (cost(i, j) + cost(k, l), cost(own, l) + cost(k, j));
-        let equal_fails = self == Wrong::StrictSum && k != i && l != j;
-        (here > there || (here == there && equal_fails)).then_some(12)
-    }
-
-    /// The pairs in turn, and the place of each: 9 where one is not in the book or not eligible, 10 where it was met before.
-    fn listed(self, book: &Book, bytes: &[u8]) -> Result<(Vec<Pair>, Places), Refused> {
-        let mut places = vec![vec![None; book.calls]; book.lots];
-        let mut pairs = Vec::new();
-        for (place, pair) in bytes.chunks(2).enumerate() {
-            let (lot, call) = (pair[0] as usize, pair[1] as usize);
-            if lot >= book.lots || call >= book.calls || book.costs[lot][call].is_none() {
-                return refuse(9, &[place]);
-            }
-            if let Some(first) = places[lot][call] {
-                return refuse(10, &[if self == Wrong::FirstPlaceOfPairMetTwice { first } else { place }]);
-            }
-            places[lot][call] = Some(place);
-            pairs.push((lot, call));
-        }
-        Ok((pairs, places))
-    }
-
-    /// The first failure 11 or 12: by the place of (i, j), then k rising, then l rising.
-    fn first_failure(self, book: &Book, pairs: &[Pair], places: &Places) -> Result<(), Refused> {
-        let after = |lot: usize, call: usize, place: usize| places[lot][call].map_or(false, |other| other > place);
-        let exchanged = self == Wrong::FailureByCallThenLot;
-        let (outer, inner) = if exchanged { (book.calls, book.lots) } else { (book.lots, book.calls) };
-        for (place, &(i, j)) in pairs.iter().enumerate() {
-            for a in 0..outer {
-                for b in 0..inner {
-                    let (k, l) = if exchanged { (b, a) } else { (a, b) };
-                    if after(i, l, place) && after(k, j, place) {
-                        if let Some(number) = self.crossing(book, (i, j), (k, l)) {
-                            return refuse(number, &[i, j, k, l]);
-                        }
-                    }
-                }
-            }
-        }
-        Ok(())
-    }
-
-    pub fn pairs_of(self, book: &Book, file: &[u8]) -> Result<Vec<Pair>, Refused> {
-        self.opening(file, b"CLO")?;
-        let count = file[5] as usize + 256 * file[6] as usize;
-        if file.len() < 7 + 2 * count {
-            return refuse(6, &[]);
-        }
-        if file.len() > 7 + 2 * count {
-            return refuse(8, &[]);
-        }
-        let (pairs, places) = self.listed(book, &file[7..])?;
-        let missing = (0..book.lots).any(|i| (0..book.calls).any(|j| book.costs[i][j].is_some() && places[i][j].is_none()));
-        if missing && self != Wrong::MissingPairAfterCheck {
-            return refuse(14, &[]);
-        }
-        self.first_failure(book, &pairs, &places)?;
-        if missing {
-            return refuse(14, &[]);
-        }
-        Ok(pairs)
-    }
-
-    pub fn check_order(self, book: &[u8], order: &[u8]) -> Result<Vec<Pair>, Refused> {
-        let book = self.read_book(book)?;
-        self.pairs_of(&book, order)
     }
 }

@@ -93,7 +93,7 @@ fn small_books(c: &mut Comparison, random: &mut Random) {
 }
 
 /// One book with any shift, and some orders and amounts.
-fn one_book(c: &mut Comparison, random: &mut Random, costs: &Costs) {
+pub fn one_book(c: &mut Comparison, random: &mut Random, costs: &Costs) {
     let mut order = pairs(costs);
     let mut shuffled = || {
         random.shuffle(&mut order);

@@ -101,7 +101,7 @@ fn permuted_monge(random: &mut Random, lots: usize, calls: usize) -> Costs {
 /// Moves each lot's costs by as much as makes one call cost all its lots the same, and all costs so that the least is 0. Differences
 /// within a lot stay, so an order stays one; and an idle call is like that call. A book whose costs would exceed the limit stays.
 pub fn even(random: &mut Random, costs: &mut Costs) {
-    let call = random.below(costs.calls as u64) as usize;
+    let call = random.below(costs.calls.max(1) as u64) as usize;
     let moved = costs.with(|i, _, cost| cost - costs[i][call].unwrap_or(0));
     let each = || moved.iter().flatten().flatten();
     let (least, greatest) = (each().min().copied().unwrap_or(0), each().max().copied().unwrap_or(0));
@@ -160,7 +160,7 @@ pub fn amounts(random: &mut Random, costs: &Costs) -> Vec<u64> {
                     amounts[lots + j] += units;
                 }
             }
-            if kind == 3 {
+            if kind == 3 && !amounts.is_empty() {
                 let at = random.below((lots + calls) as u64) as usize;
                 amounts[at] += 1;
             }

@@ -15,13 +15,13 @@ pub fn some_order(costs: &Costs) -> Vec<Pair> {
 }
 
 /// The cost of every pair of a book, and of pairs next to them.
-fn all_pairs(c: &mut Comparison, book: &[u8]) {
+pub fn all_pairs(c: &mut Comparison, book: &[u8]) {
     let (lots, calls) = (book[5] as usize, book[6] as usize);
     (0..lots + 1).for_each(|lot| (0..calls + 1).for_each(|call| c.pair_cost(book, lot, call)));
 }
 
 /// Reading, the stretch of each lot, the cost of a pair of each, and the finder with buffers of each length about the limit.
-fn read_and_find(c: &mut Comparison, random: &mut Random, book: &[u8], lengths: impl Iterator<Item = usize>) {
+pub fn read_and_find(c: &mut Comparison, random: &mut Random, book: &[u8], lengths: impl Iterator<Item = usize>) {
     c.read_book(book);
     let (lots, calls) = book.get(5..7).map_or((0, 0), |counts| (counts[0] as usize % 34, counts[1] as usize % 34));
     (0..lots + 2).chain(FAR).for_each(|lot| c.lot_costs(book, lot));
@@ -44,33 +44,35 @@ pub fn every_entry(c: &mut Comparison, random: &mut Random, book: &[u8], order: 
     check_and_run(c, book, order, amounts, flow);
 }
 
-/// Every book up to 2 by 2 with cells from `cells`: every order, buffers of every length, every small amount.
+/// One book: every order, buffers of every length, every small amount.
+pub fn small_book(c: &mut Comparison, random: &mut Random, version: u16, costs: &Costs) {
+    let ((lots, calls), book, own) = (costs.size(), book_file(version, costs), pairs(costs));
+    read_and_find(c, random, &book, 0..7 + 2 * own.len() + 4);
+    all_pairs(c, &book);
+    for order in permutations(&own) {
+        c.check_order(&book, &order_file(&order));
+        for at in 0..order.len() {
+            let (mut cut, mut doubled) = (order.clone(), order.clone());
+            cut.remove(at);
+            doubled.insert(random.below(order.len() as u64 + 1) as usize, order[at]);
+            c.check_order(&book, &order_file(&cut));
+            c.check_order(&book, &order_file(&doubled));
+        }
+    }
+    let order = order_file(&some_order(costs));
+    for amounts in all(&[0, 1, 2], lots + calls) {
+        let amounts = amounts_file(lots, calls, &amounts);
+        let flow = random.entries(lots * calls + 1);
+        c.find_and_run(&book, &amounts, &flow);
+        c.run_order(&book, &order, &amounts, &flow);
+    }
+}
+
+/// Every book up to 2 by 2 with cells from `cells`.
 pub fn small_books(c: &mut Comparison, version: u16, cells: &[Option<i64>]) {
     let random = &mut Random(1);
     for (lots, calls) in [(1, 1), (1, 2), (2, 1), (2, 2)] {
-        for costs in all_books(lots, calls, cells) {
-            let book = book_file(version, &costs);
-            let own = pairs(&costs);
-            read_and_find(c, random, &book, 0..7 + 2 * own.len() + 4);
-            all_pairs(c, &book);
-            for order in permutations(&own) {
-                c.check_order(&book, &order_file(&order));
-                for at in 0..order.len() {
-                    let (mut cut, mut doubled) = (order.clone(), order.clone());
-                    cut.remove(at);
-                    doubled.insert(random.below(order.len() as u64 + 1) as usize, order[at]);
-                    c.check_order(&book, &order_file(&cut));
-                    c.check_order(&book, &order_file(&doubled));
-                }
-            }
-            let order = order_file(&some_order(&costs));
-            for amounts in all(&[0, 1, 2], lots + calls) {
-                let amounts = amounts_file(lots, calls, &amounts);
-                let flow = random.entries(lots * calls + 1);
-                c.find_and_run(&book, &amounts, &flow);
-                c.run_order(&book, &order, &amounts, &flow);
-            }
-        }
+        all_books(lots, calls, cells).iter().for_each(|costs| small_book(c, random, version, costs));
     }
 }
 
@@ -88,7 +90,7 @@ fn changed(random: &mut Random, order: &[Pair], lots: usize, calls: usize) -> Ve
     let mut order = order.to_vec();
     let count = order.len();
     let (at, other) = (random.below(count.max(1) as u64) as usize, random.below(count as u64 + 1) as usize);
-    let outside = random.pick(&[(0, calls), (lots, 0), (0, 32), (31, 255), (255, 255), (lots - 1, calls + 1)]);
+    let outside = random.pick(&[(0, calls), (lots, 0), (0, 32), (31, 255), (255, 255), (lots.saturating_sub(1), calls + 1)]);
     match random.below(7) {
         0 => random.shuffle(&mut order),
         1 => order.reverse(),
@@ -106,7 +108,7 @@ fn changed(random: &mut Random, order: &[Pair], lots: usize, calls: usize) -> Ve
 }
 
 /// One random book with orders and amounts.
-fn random_book(c: &mut Comparison, random: &mut Random, version: u16, kind: Kind, (lots, calls): (usize, usize), orders: usize) {
+pub fn random_book(c: &mut Comparison, random: &mut Random, version: u16, kind: Kind, (lots, calls): (usize, usize), orders: usize) {
     let costs = costs(random, kind, lots, calls);
     let costs = in_version(random, version, costs);
     let book = book_file(version, &costs);
@@ -118,16 +120,18 @@ fn random_book(c: &mut Comparison, random: &mut Random, version: u16, kind: Kind
     for turn in 0..orders {
         let order = if turn == 0 { order_file(&found) } else { changed(random, &found, lots, calls) };
         let amounts = amounts_file(lots, calls, &amounts(random, &costs));
-        let entries = lots * calls + random.pick(&[0, 0, 1, 40]) - random.chance(5) as usize;
+        let entries = (lots * calls + random.pick(&[0, 0, 1, 40])).saturating_sub(random.chance(5) as usize);
         let flow = random.entries(entries);
         check_and_run(c, &book, &order, &amounts, &flow);
     }
 }
 
-pub fn random_books(c: &mut Comparison, version: u16, count: usize, most: u64, orders: usize) {
-    let random = &mut Random(2 + most);
+/// Books of so many lots and calls.
+pub fn random_books(c: &mut Comparison, version: u16, count: usize, (least, most): (usize, usize), orders: usize) {
+    let random = &mut Random(2 + most as u64);
     for _ in 0..count {
-        let (lots, calls, kind) = (1 + random.below(most) as usize, 1 + random.below(most) as usize, random.pick(&KINDS));
+        let mut size = || least + random.below((most + 1 - least) as u64) as usize;
+        let (lots, calls, kind) = (size(), size(), random.pick(&KINDS));
         random_book(c, random, version, kind, (lots, calls), orders);
     }
 }
@@ -164,7 +168,7 @@ pub fn damage(c: &mut Comparison, books: &[Vec<u8>]) {
             c.read_amounts(book, &amounts);
             c.run_order(book, &order, &amounts, &flow);
             c.find_and_run(book, &amounts, &flow);
-            c.find_and_run(book, &amounts, &flow[..lots * calls - 1]);
+            c.find_and_run(book, &amounts, &flow[..(lots * calls).saturating_sub(1)]);
         }
         for length in 0..lots * calls + 2 {
             c.run_order(book, &order, &amounts, &flow[..length]);
@@ -194,6 +198,22 @@ pub fn largest(c: &mut Comparison, random: &mut Random, version: u16, cost: i64,
     all_pairs(c, &book);
 }
 
+/// Amounts about their limit, each in turn.
+pub fn amount_limits(c: &mut Comparison, random: &mut Random, book: &[u8], order: &[u8]) {
+    let (lots, calls) = (book[5] as usize, book[6] as usize);
+    for amount in [999_999_999, 1_000_000_000, 1_000_000_001, 1 << 31, (1 << 32) - 1] {
+        for at in 0..lots + calls {
+            let mut amounts = random.numbers(lots + calls, 3);
+            amounts[at] = amount;
+            let amounts = amounts_file(lots, calls, &amounts);
+            c.read_amounts(book, &amounts);
+            let flow = random.entries(lots * calls);
+            c.run_order(book, order, &amounts, &flow);
+            c.find_and_run(book, &amounts, &flow);
+        }
+    }
+}
+
 /// Costs and amounts at their limits, each in turn, and the largest books.
 pub fn limits(c: &mut Comparison) {
     let random = &mut Random(4);
@@ -208,17 +228,7 @@ pub fn limits(c: &mut Comparison) {
                 c.check_order(&book_file(1, &costs), &order);
             }
         }
-        for amount in [999_999_999, 1_000_000_000, 1_000_000_001, 1 << 31, (1 << 32) - 1] {
-            for at in 0..lots + calls {
-                let mut amounts = random.numbers(lots + calls, 3);
-                amounts[at] = amount;
-                let amounts = amounts_file(lots, calls, &amounts);
-                c.read_amounts(&book_file(1, &zeros), &amounts);
-                let flow = random.entries(lots * calls);
-                c.run_order(&book_file(1, &zeros), &order, &amounts, &flow);
-                c.find_and_run(&book_file(1, &zeros), &amounts, &flow);
-            }
-        }
+        amount_limits(c, random, &book_file(1, &zeros), &order);
     }
     [31, 32].into_iter().for_each(|calls| largest(c, random, 1, 1_000_000, calls));
 }

@@ -11,20 +11,26 @@ const VERSIONS: [u16; 11] = [0, 1, 2, 3, 255, 256, 257, 258, 513, 32_770, 65_535
 const BITS: [i64; 11] =
     [0, 1, 0x000f_4240, 0x000f_4241, 0x001e_8480, 0x001e_8481, 0x7fff_ffff, 0x8000_0000, 0xfff0_bdbf, 0xfff0_bdc0, 0xffff_ffff];
 
-/// Every version of each file beside every version of the others, on a book without costs below zero and on one with them.
+/// Every version of each file beside every version of the others.
+pub fn every_version(c: &mut Comparison, random: &mut Random, costs: &Costs, amounts: &[u64]) {
+    let (lots, calls) = costs.size();
+    let (order, amounts) = (order_file(&some_order(costs)), amounts_file(lots, calls, amounts));
+    let flow = random.entries(lots * calls + 1);
+    for version in VERSIONS {
+        let book = book_file(version, costs);
+        for order in VERSIONS.map(|version| relabelled(&order, version)) {
+            for amounts in VERSIONS.map(|version| relabelled(&amounts, version)) {
+                every_entry(c, random, &book, &order, &amounts, &flow);
+            }
+        }
+    }
+}
+
+/// A book without costs below zero, and one with them.
 pub fn versions(c: &mut Comparison) {
     let random = &mut Random(80);
     for costs in [rows(&[&[1, 2], &[3, 5]]), rows(&[&[1, -2], &[-3, 5]])] {
-        let (order, amounts) = (order_file(&some_order(&costs)), amounts_file(2, 2, &[5, 4, 3, 5]));
-        let flow = random.entries(5);
-        for version in VERSIONS {
-            let book = book_file(version, &costs);
-            for order in VERSIONS.map(|version| relabelled(&order, version)) {
-                for amounts in VERSIONS.map(|version| relabelled(&amounts, version)) {
-                    every_entry(c, random, &book, &order, &amounts, &flow);
-                }
-            }
-        }
+        every_version(c, random, &costs, &[5, 4, 3, 5]);
     }
 }
 

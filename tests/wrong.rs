@@ -15,6 +15,10 @@ macro_rules! wrong {
 const EVERY: &[&str] =
     &["read_book", "lot_costs", "pair_cost", "read_amounts", "check_order", "run_order", "find_order", "find_and_run", "find_and_run_idle"];
 
+/// Every entry point but the costs of a lot, which are an empty stretch for a book without lots or calls, refused or not.
+const REPLYING: &[&str] =
+    &["read_book", "pair_cost", "read_amounts", "check_order", "run_order", "find_order", "find_and_run", "find_and_run_idle"];
+
 wrong! {
     &[] =>
     FailureByCallThenLot
@@ -108,7 +112,58 @@ wrong! {
     &["find_order"] =>
     OrderOfTheBooksVersion;
 
+    REPLYING =>
+    NoLotsRefused
+    NoCallsRefused
+    NewDeskOfVersion1Alone
+    NewDeskOfVersion2Alone
+    CountAbove32BesideZero
+    OneRowAtLeast
+    NoRowsWithoutCalls
+    WordNotLookedAtWithoutCalls
+    LastLotNamedWithoutCalls;
+
+    &["lot_costs"] =>
+    WordForCostsWithoutCalls;
+
+    &["pair_cost"] =>
+    NewDeskCostsNothing;
+
+    &["read_amounts", "run_order", "find_and_run", "find_and_run_idle"] =>
+    NewDeskAmountsRefused
+    NewDesksAlike
+    NewDeskWithoutAmountLimit
+    OneAmountAtLeast;
+
+    &["check_order", "run_order"] =>
+    NewDeskOrderRefused
+    NewDeskPairsNotLookedAt;
+
+    &["find_order"] =>
+    OrderBufferOfOnePair;
+
+    &["find_order", "find_and_run", "find_and_run_idle"] =>
+    NewDeskWithoutOrder;
+
+    &["run_order", "find_and_run", "find_and_run_idle"] =>
+    OneEntryAtLeast
+    NewDeskEntryCleared
+    ShortWithoutCalls
+    FullWithoutCalls
+    CoveredWithoutCalls
+    CoveredWithNothingAtAll;
+
+    &["run_order", "find_and_run"] =>
+    FullWithoutLots
+    CoveredWithoutLots;
+
+    &["find_and_run_idle"] =>
+    NoIdleCallWithoutCalls
+    TotalsNotLookedAtWithoutLots
+    NoIdleCallBeforeTotalsWithoutLots;
+
     &["place"] =>
+    NewDeskWithALine
     MinusNotPrinted
     MinusBeforeZero;
 }
