@@ -12,6 +12,7 @@ mod idle;
 mod known;
 mod library;
 mod new_desks;
+mod noticing;
 mod placing;
 mod program;
 mod rebates;
@@ -25,14 +26,15 @@ mod sys;
 mod versions;
 mod wrong;
 
-use library::{Books, Comparison, Tallies, Tally, IDLE, PLACE};
+use library::{Books, Comparison, Tallies, Tally, IDLE};
+use noticing::missed;
 use std::collections::hash_map::DefaultHasher;
 use std::hash::Hasher;
 use std::path::Path;
 use std::sync::atomic::{AtomicUsize, Ordering};
 use std::sync::Mutex;
 use std::time::Instant;
-use wrong::{Wrong, WRONG};
+use wrong::Wrong;
 
 /// In the place of a number: a run's cost is below zero.
 const BELOW_ZERO: usize = 20;
@@ -103,41 +105,6 @@ fn print_digests(before: &[Outcome], request_5: &[Outcome]) {
     println!("replies and writes with all other books: {:016x}", digest(with(Books::Other)));
     let new_desks = with(Books::NewDesk).chain(request_5.iter().flat_map(|done| done.digests));
     println!("replies and writes with books without lots or calls, and in the parts of request 5: {:016x}", digest(new_desks));
-}
-
-/// Whether a wrong reference was noticed: by each of these entry points, or by any where none is named.
-fn noticed(tallies: &Tallies, names: &[&str]) -> bool {
-    let differing = || tallies.iter().filter(|(_, tally)| tally.differences > 0);
-    differing().next().is_some() && names.iter().all(|name| differing().any(|(key, _)| key.0 == *name))
-}
-
-/// The cases in which a wrong reference is to be noticed: it stops once it is.
-fn notice(c: &mut Comparison, names: &[&str], path: &Path) {
-    let parts: [&dyn Fn(&mut Comparison); 14] = [
-        &new_desks::few,
-        &new_desks::known,
-        &|c| new_desks::counts(c, &[0, 1, 33]),
-        &|c| new_desks::words(c, 2),
-        &new_desks::amounts,
-        &|c| sections::random_books(c, 1, 200, (1, 6), 2),
-        &|c| sections::random_books(c, 2, 200, (1, 6), 2),
-        &|c| sections::damage(c, &samples::stored_books()[..4]),
-        &sections::limits,
-        &|c| sections::small_books(c, 1, &SMALL),
-        &known::known_idle,
-        &versions::cost_limits,
-        &versions::versions,
-        &|c| {
-            if names.contains(&PLACE) {
-                program::rebates(c, path);
-                program::new_desks(c, path)
-            }
-        },
-    ];
-    let _ = parts.iter().any(|part| {
-        part(c);
-        noticed(&c.tallies, names)
-    });
 }
 
 /// The parts with books of version 1, the two longest first.
@@ -236,16 +203,6 @@ fn unseen(outcomes: &[Outcome]) -> u64 {
         expected.map(|(_, times)| times).chain(tally.verdicts).filter(|&times| times == 0).count() as u64
     };
     tallies.into_iter().map(print).sum()
-}
-
-/// The wrong references that were not noticed, and how many there are; those of the printing program are left out where it is not built.
-fn missed(path: &Path) -> (Vec<Wrong>, usize) {
-    let all: Vec<_> = WRONG.iter().filter(|(_, names)| path.is_file() || !names.contains(&PLACE)).collect();
-    let parts: Vec<(Wrong, Work)> =
-        all.iter().map(|&&(wrong, names)| (wrong, Box::new(move |c: &mut _| notice(c, names, path)) as Work)).collect();
-    let outcomes = run_all(&parts);
-    let missed = all.iter().zip(&outcomes).filter(|((_, names), done)| !noticed(&done.tallies, names));
-    (missed.map(|(&&(wrong, _), _)| wrong).collect(), all.len())
 }
 
 fn main() {

@@ -1,15 +1,17 @@
 //! The deliberate errors of the reference, by the entry points in which they show.
 
 macro_rules! wrong {
-    ($($names:expr => $($wrong:ident)*;)*) => {
+    ($($list:ident { $($names:expr => $($wrong:ident)*;)* })*) => {
         /// An error to make on purpose, or none.
         #[derive(Clone, Copy, Debug, PartialEq)]
-        pub enum Wrong { Nothing, $($($wrong),*),* }
+        pub enum Wrong { Nothing, $($($($wrong),*),*),* }
 
-        /// Each error, and the entry points that have to show it, each by itself.
-        pub const WRONG: &[(Wrong, &[&str])] = &[$($((Wrong::$wrong, $names)),*),*];
+        $(pub const $list: Errors = &[$($((Wrong::$wrong, $names)),*),*];)*
     };
 }
+
+/// Errors, and the entry points that have to show each of them, each by itself.
+pub type Errors = &'static [(Wrong, &'static [&'static str])];
 
 /// Every entry point.
 const EVERY: &[&str] =
@@ -20,150 +22,156 @@ const REPLYING: &[&str] =
     &["read_book", "pair_cost", "read_amounts", "check_order", "run_order", "find_order", "find_and_run", "find_and_run_idle"];
 
 wrong! {
-    &[] =>
-    FailureByCallThenLot
-    AmountsBeforeOrder
-    FirstPlaceOfPairMetTwice
-    MissingPairAfterCheck
-    CountForLength
-    StretchWithWord
-    EmptyStretchAtRow
-    PairTurnedRound
-    NotEligibleCostsNothing;
+    BEFORE_REQUEST_5 {
+        &[] =>
+        FailureByCallThenLot
+        AmountsBeforeOrder
+        FirstPlaceOfPairMetTwice
+        MissingPairAfterCheck
+        CountForLength
+        StretchWithWord
+        EmptyStretchAtRow
+        PairTurnedRound
+        NotEligibleCostsNothing;
 
-    &["check_order", "find_and_run", "find_and_run_idle"] =>
-    CrossPairTurnedRound
-    CostOfTheOtherLot
-    MissingPairPasses;
+        &["check_order", "find_and_run", "find_and_run_idle"] =>
+        CrossPairTurnedRound
+        CostOfTheOtherLot
+        MissingPairPasses;
 
-    &["find_and_run", "find_and_run_idle"] =>
-    StrictSum
-    OnlyLaterLotsAndCalls
-    MissingPairCostsNothing
-    TakenPairNotEligible
-    HighestPairFirst
-    CheapestPairFirst
-    FullWhenCallsMet
-    CoveredWhenNothingIsLeft
-    CoveredWhenACallLacks
-    CoveredByTotals
-    ShortWhenLotsAreLeft
-    CostOfEachPairOnce
-    IneligibleEntriesKept
-    NoOrderBeforeShortBuffer
-    CostsOneByOne
-    PositionForCall
-    LimitExcluded
-    MarkBeforeLength
-    VersionByteAlone
-    LengthAfterAmounts;
+        &["find_and_run", "find_and_run_idle"] =>
+        StrictSum
+        OnlyLaterLotsAndCalls
+        MissingPairCostsNothing
+        TakenPairNotEligible
+        HighestPairFirst
+        CheapestPairFirst
+        FullWhenCallsMet
+        CoveredWhenNothingIsLeft
+        CoveredWhenACallLacks
+        CoveredByTotals
+        ShortWhenLotsAreLeft
+        CostOfEachPairOnce
+        IneligibleEntriesKept
+        NoOrderBeforeShortBuffer
+        CostsOneByOne
+        PositionForCall
+        LimitExcluded
+        MarkBeforeLength
+        VersionByteAlone
+        LengthAfterAmounts;
 
-    &["find_and_run_idle"] =>
-    TotalsBeforeAmountLimit
-    EqualTotalsRefused
-    TotalsIn32Bits
-    NoIdleCallBeforeAmounts
-    NoIdleCallBeforeTotals
-    NoIdleCallByLots
-    ShortBufferBeforeTotals
-    ShortBufferBeforeNoIdleCall
-    ShortBufferWithIdleCall
-    NoOrderOfBookItself
-    OrderOfBookItself
-    IdleCallFirst
-    IdlePairsFirst
-    IdleOnlyForLotsWithPairs
-    IdleCallGivenNothing
-    IdleAmountOfAllLots
-    IdleAmountIn32Bits
-    IdleAmountWithinLimit
-    IdleUnitsPlaced
-    FlowWithIdleCall
-    FullWhenIdleTakesTheRest
-    BaseSubtractedForIdleUnits;
+        &["find_and_run_idle"] =>
+        TotalsBeforeAmountLimit
+        EqualTotalsRefused
+        TotalsIn32Bits
+        NoIdleCallBeforeAmounts
+        NoIdleCallBeforeTotals
+        NoIdleCallByLots
+        ShortBufferBeforeTotals
+        ShortBufferBeforeNoIdleCall
+        ShortBufferWithIdleCall
+        NoOrderOfBookItself
+        OrderOfBookItself
+        IdleCallFirst
+        IdlePairsFirst
+        IdleOnlyForLotsWithPairs
+        IdleCallGivenNothing
+        IdleAmountOfAllLots
+        IdleAmountIn32Bits
+        IdleAmountWithinLimit
+        IdleUnitsPlaced
+        FlowWithIdleCall
+        FullWhenIdleTakesTheRest
+        BaseSubtractedForIdleUnits;
 
-    EVERY =>
-    BookOfVersion0
-    BookOfVersion1Alone
-    BookOfVersion3
-    SignedInVersion1
-    UnsignedInVersion2
-    SignAndSize
-    LeastCostExcluded
-    OneBelowTheLeastCost
-    CostToTwoMillion;
+        EVERY =>
+        BookOfVersion0
+        BookOfVersion1Alone
+        BookOfVersion3
+        SignedInVersion1
+        UnsignedInVersion2
+        SignAndSize
+        LeastCostExcluded
+        OneBelowTheLeastCost
+        CostToTwoMillion;
 
-    &["check_order", "run_order"] =>
-    OrderOfVersion2;
+        &["check_order", "run_order"] =>
+        OrderOfVersion2;
 
-    &["read_amounts", "run_order", "find_and_run", "find_and_run_idle"] =>
-    AmountsOfVersion2;
+        &["read_amounts", "run_order", "find_and_run", "find_and_run_idle"] =>
+        AmountsOfVersion2;
 
-    &["check_order", "run_order", "find_order", "find_and_run", "find_and_run_idle"] =>
-    SumsUnsigned;
+        &["check_order", "run_order", "find_order", "find_and_run", "find_and_run_idle"] =>
+        SumsUnsigned;
 
-    &["run_order", "find_and_run", "find_and_run_idle"] =>
-    CostIn32Bits
-    BaseSubtractedOnce;
+        &["run_order", "find_and_run", "find_and_run_idle"] =>
+        CostIn32Bits
+        BaseSubtractedOnce;
 
-    &["pair_cost"] =>
-    PairCostIn32Bits;
+        &["pair_cost"] =>
+        PairCostIn32Bits;
 
-    &["find_order"] =>
-    OrderOfTheBooksVersion;
+        &["find_order"] =>
+        OrderOfTheBooksVersion;
 
-    REPLYING =>
-    NoLotsRefused
-    NoCallsRefused
-    NewDeskOfVersion1Alone
-    NewDeskOfVersion2Alone
-    CountAbove32BesideZero
-    OneRowAtLeast
-    NoRowsWithoutCalls
-    WordNotLookedAtWithoutCalls
-    LastLotNamedWithoutCalls;
+        &["place"] =>
+        MinusNotPrinted
+        MinusBeforeZero;
+    }
 
-    &["lot_costs"] =>
-    WordForCostsWithoutCalls;
+    REQUEST_5 {
+        REPLYING =>
+        NoLotsRefused
+        NoCallsRefused
+        NewDeskOfVersion1Alone
+        NewDeskOfVersion2Alone
+        CountAbove32BesideZero
+        OneRowAtLeast
+        NoRowsWithoutCalls
+        WordNotLookedAtWithoutCalls
+        LastLotNamedWithoutCalls;
 
-    &["pair_cost"] =>
-    NewDeskCostsNothing;
+        &["lot_costs"] =>
+        WordForCostsWithoutCalls;
 
-    &["read_amounts", "run_order", "find_and_run", "find_and_run_idle"] =>
-    NewDeskAmountsRefused
-    NewDesksAlike
-    NewDeskWithoutAmountLimit
-    OneAmountAtLeast;
+        &["pair_cost"] =>
+        NewDeskCostsNothing;
 
-    &["check_order", "run_order"] =>
-    NewDeskOrderRefused
-    NewDeskPairsNotLookedAt;
+        &["read_amounts", "run_order", "find_and_run", "find_and_run_idle"] =>
+        NewDeskAmountsRefused
+        NewDesksAlike
+        NewDeskWithoutAmountLimit
+        OneAmountAtLeast;
 
-    &["find_order"] =>
-    OrderBufferOfOnePair;
+        &["check_order", "run_order"] =>
+        NewDeskOrderRefused
+        NewDeskPairsNotLookedAt;
 
-    &["find_order", "find_and_run", "find_and_run_idle"] =>
-    NewDeskWithoutOrder;
+        &["find_order"] =>
+        OrderBufferOfOnePair;
 
-    &["run_order", "find_and_run", "find_and_run_idle"] =>
-    OneEntryAtLeast
-    NewDeskEntryCleared
-    ShortWithoutCalls
-    FullWithoutCalls
-    CoveredWithoutCalls
-    CoveredWithNothingAtAll;
+        &["find_order", "find_and_run", "find_and_run_idle"] =>
+        NewDeskWithoutOrder;
 
-    &["run_order", "find_and_run"] =>
-    FullWithoutLots
-    CoveredWithoutLots;
+        &["run_order", "find_and_run", "find_and_run_idle"] =>
+        OneEntryAtLeast
+        NewDeskEntryCleared
+        ShortWithoutCalls
+        FullWithoutCalls
+        CoveredWithoutCalls
+        CoveredWithNothingAtAll;
 
-    &["find_and_run_idle"] =>
-    NoIdleCallWithoutCalls
-    TotalsNotLookedAtWithoutLots
-    NoIdleCallBeforeTotalsWithoutLots;
+        &["run_order", "find_and_run"] =>
+        FullWithoutLots
+        CoveredWithoutLots;
 
-    &["place"] =>
-    NewDeskWithALine
-    MinusNotPrinted
-    MinusBeforeZero;
+        &["find_and_run_idle"] =>
+        NoIdleCallWithoutCalls
+        TotalsNotLookedAtWithoutLots
+        NoIdleCallBeforeTotalsWithoutLots;
+
+        &["place"] =>
+        NewDeskWithALine;
+    }
 }
