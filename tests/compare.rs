@@ -98,7 +98,8 @@ fn digest(digests: impl Iterator<Item = u64>) -> u64 {
     all.finish()
 }
 
-/// Prints digests of what the library replied and wrote: in the parts from before request 5 with books of lots and calls, and with all else.
+/// Prints digests of what the library replied and wrote: with books that have lots and calls, in the parts from before request 5; and all
+/// else.
 fn print_digests(before: &[Outcome], request_5: &[Outcome]) {
     let with = |books: Books| before.iter().map(move |done| done.digests[books as usize]);
     println!("replies and writes with books of version 2: {:016x}", digest(with(Books::Version2)));
