@@ -1,5 +1,7 @@
-// Reads F13 and F14 of document 01, damaged books and amounts, and books of version 2 (document 02, request 4), and writes what each reading
-// answers: one line a case, with the name of the example or the label of docs/TRAPS.md.
+// Reads F13 and F14 of document 01, damaged books and amounts, books of version 2 (document 02, request 4), and books and amounts with no lots
+// or no calls (request 5), and writes what each reading answers: one line a case, with the name of the example or the label of docs/TRAPS.md.
+mod zero_counts;
+
 use book::Cost;
 use specification::Call;
 use specification::Counts;
@@ -192,6 +194,7 @@ fn rows() {
     book(F14, 1, 33, 7, 0, 0, 0);
     book(4, 0, 33, 7, 0, 0, 0);
     book(4, 33, 1, 7, 0, 0, 0);
+    book(4, 255, 0, 7, 0, 0, 0);
     book(F14, 1, 2, 11, 4, 0, 0);
     book(5, 1, 2, 15, 3, 0xffffffff, 0);
     book(6, 2, 1, 15, 1, 0xffffffff, 0);
@@ -280,4 +283,8 @@ fn main() {
     signed_costs();
     versions();
     rebates();
+    zero_counts::books();
+    zero_counts::words();
+    zero_counts::lots_and_pairs();
+    zero_counts::amounts_files();
 }

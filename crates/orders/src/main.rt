@@ -1,49 +1,12 @@
-// Checks the known examples of orders, F2 to F6 of document 01, and orders that tempt a check to err, and writes what each comes to: a
-// label, and the count of pairs or the refusal's number and values.
-use specification::Call;
-use specification::Checked;
-use specification::Lot;
-use specification::Refusal;
+// Checks the known examples of orders, F2 to F6 of document 01, and orders that tempt a check to err, and writes what each comes to.
+mod answer;
+
 ghost use mathlib.Core.Path.{_≡_};
 ghost use lib.ListN.{length};
 
-fn show_number(x: usize) {
-    io::write_all(1, b" ");
-    io::print_decimal(1, x as u64);
-}
-
-fn show_quadruple(i: Lot, j: Call, k: Lot, l: Call) {
-    show_number(i.0);
-    show_number(j.0);
-    show_number(k.0);
-    show_number(l.0);
-}
-
-// A refusal's number, and its values where a check of pairs gives it.
-fn show_refusal(cause: Refusal) {
-    io::print_decimal(1, files::number(cause) as u64);
-    match cause {
-        Refusal::PairNotEligible(place) => show_number(place),
-        Refusal::PairMetBefore(place) => show_number(place),
-        Refusal::CrossNotEligible(i, j, k, l) => show_quadruple(i, j, k, l),
-        Refusal::CrossSumTooHigh(i, j, k, l) => show_quadruple(i, j, k, l),
-        _ => (),
-    }
-}
-
 // One case: an order file checked against a book.
 fn show(label: &[u8], book: &[u8], order: &[u8]) {
-    io::write_all(1, label);
-    io::write_all(1, b": ");
-    let checked = order::check_order(book, order);
-    match checked {
-        Checked::Passes(count) => {
-            io::write_all(1, b"passes");
-            show_number(count);
-        }
-        Checked::Refused(cause) => show_refusal(cause),
-    }
-    io::write_all(1, b"\n");
+    answer::write(label, order::check_order(book, order));
 }
 
 // One case: the first so many bytes of an order file.
@@ -278,6 +241,25 @@ fn show_rebates() {
     show(b"version 2 of an order", widest, b"CLO\x02\x00\x00\x00");
 }
 
+// A book with no lots or no calls (request 5) has an order of no pairs, and any pair is outside.
+fn show_zero_counts() {
+    let no_pairs = b"CLO\x01\x00\x00\x00";
+    let nothing = b"CLB\x01\x00\x00\x00";
+    let no_lots = b"CLB\x02\x00\x00\x20";
+    let no_calls = b"CLB\x01\x00\x02\x00\x00\x00\x00\x00\x00\x00\x00\x00";
+    show(b"no lots and no calls", nothing, no_pairs);
+    show_pairs(b"no lots and no calls, a pair", nothing, b"00");
+    show(b"no lots, 32 calls, version 2", no_lots, no_pairs);
+    show_pairs(b"no lots, 32 calls, a pair", no_lots, b"00 00");
+    show(b"two lots, no calls", no_calls, no_pairs);
+    show_pairs(b"two lots, no calls, a pair", no_calls, b"10");
+    show(
+        b"two lots, no calls, a byte more",
+        no_calls,
+        b"CLO\x01\x00\x00\x00\x00",
+    );
+}
+
 // 22 lots and 7 calls, eligible (0, 0), (0, 3), (10, 0), (10, 3), (10, 6) and (21, 3): (10, 3) fails with (0, 6) and with (21, 0).
 fn show_far_failures() {
     let mut book = [0u8; 119];
@@ -303,5 +285,6 @@ fn main() {
     show_blocks();
     show_gaps();
     show_rebates();
+    show_zero_counts();
     show_far_failures();
 }

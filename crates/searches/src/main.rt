@@ -205,6 +205,15 @@ fn show_lengths() {
     show_in(b"P54", &NO_PAIRS, 40);
 }
 
+// No lots, no calls, or neither (request 5): the file has 7 bytes, and a buffer of 6 is too short.
+fn show_zero_counts() {
+    show_in(b"P92", b"CLB\x01\0\0\0", 7);
+    show_in(b"P92", b"CLB\x01\0\0\0", 6);
+    show_in(b"P92", b"CLB\x02\0\0\x20", 40);
+    show_in(b"P92", b"CLB\x01\0\x02\0\0\0\0\0\0\0\0\0", 7);
+    show_in(b"P92", b"CLB\x01\0\x02\0\0\0\0\0\0\0\0\0", 6);
+}
+
 // Each search starts anew.
 fn show_anew() {
     show_in(b"P56", &F9, 40);
@@ -239,6 +248,7 @@ fn main() {
     show_lengths();
     show_anew();
     show_signed();
+    show_zero_counts();
     show_long();
     show_long_with_gap();
 }
