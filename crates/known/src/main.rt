@@ -1,7 +1,8 @@
 // Document 01's known examples, F1 to F14, run through the entry points, a few more inputs to a run that tempt to another answer, runs with
-// an idle call (document 02, request 2), and books with rebates (request 4).
+// an idle call (document 02, request 2), books with rebates (request 4), and books with no lots or no calls (request 5).
 mod given;
 mod show;
+mod zero_counts;
 
 use specification::Found;
 
@@ -262,4 +263,5 @@ fn main() {
     many_calls();
     rebates();
     versions();
+    zero_counts::desks();
 }

@@ -1,5 +1,5 @@
-// The text that is printed of several books and amounts: each refusal that can come, nothing placed, a few lines, costs below zero, and the
-// most lines that a text can have.
+// The text that is printed of several books and amounts: each refusal that can come, nothing placed, a few lines, costs below zero, no lots or
+// no calls, and the most lines that a text can have.
 
 // Prints a label, and then the text of two files.
 fn print(label: &[u8], book: &[u8], amounts: &[u8]) {
@@ -140,6 +140,22 @@ fn rebates() {
     );
 }
 
+// With no lots or no calls (request 5) the first line stands alone.
+fn zero_counts() {
+    print(b"no lots and no calls", b"CLB\x01\0\0\0", b"CLA\x01\0\0\0");
+    print(
+        b"no lots, calls 3 0",
+        b"CLB\x02\0\0\x02",
+        b"CLA\x01\0\0\x02\x03\0\0\0\0\0\0\0",
+    );
+    print(
+        b"lots 0 4, no calls",
+        b"CLB\x01\0\x02\0\0\0\0\0\0\0\0\0",
+        b"CLA\x01\0\x02\0\0\0\0\0\x04\0\0\0",
+    );
+    print_book(b"book of no calls with bit 0", b"CLB\x01\0\x01\0\x01\0\0\0");
+}
+
 // Puts the lowest byte of a number at an offset, if the file reaches so far.
 fn put(out: &mut [u8], at: usize, x: u32) {
     if at < out.len() {
@@ -214,6 +230,7 @@ fn main() {
     two_by_two();
     one_by_one();
     rebates();
+    zero_counts();
     most_lines();
     too_long();
 }
