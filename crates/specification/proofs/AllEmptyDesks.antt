@@ -29,7 +29,7 @@ noCalls n = book n 0 (replicate n 0)
 abbrev pub noLots : ℕ → List ℕ
 noLots m = book 0 m []
 
-abbrev nothingYet : List ℕ
+abbrev pub nothingYet : List ℕ
 nothingYet = bookMark ++ (2 ∷ 0 ∷ 0 ∷ 0 ∷ [])
 
 -- two lots with 3 and 4 units
@@ -48,19 +48,22 @@ pub record EmptyCases : Type 0 where
   pub calls-above-32 : readBook (noLots 33) ≡ refuses 4 []
   pub lots-above-32 : readBook (noCalls 33) ≡ refuses 4 []
   pub row-missing : readBook (book 2 0 (0 ∷ [])) ≡ refuses 6 []
+  pub word-cut : readBook (book 1 0 [] ++ (1 ∷ 0 ∷ 0 ∷ [])) ≡ refuses 6 []
   pub word-not-0 : readBook (book 2 0 (0 ∷ 1 ∷ [])) ≡ refuses 5 (1 ∷ [])
   pub bytes-after : readBook (book 0 2 (0 ∷ [])) ≡ refuses 8 []
   -- no costs
-  pub lot-costs : lotCosts (noCalls 2) 1 ≡ []
+  pub lot-costs : lotCosts (noCalls 2) 0 ≡ []
   pub pair-cost : pairCost (noCalls 2) 1 0 ≡ gives outside
   -- its order has no pairs
   pub passes : checkOrder (noLots 2) (orderFile []) ≡ gives 0
   pub pair-listed : checkOrder (noCalls 2) (orderFile (pair 0 0 ∷ [])) ≡ refuses 9 (0 ∷ [])
+  pub pair-listed-no-lots : checkOrder (noLots 2) (orderFile (pair 0 0 ∷ [])) ≡ refuses 9 (0 ∷ [])
   pub found : findBuffer (noCalls 2) (replicate 8 7) ≡ orderFile [] ++ (7 ∷ [])
   pub found-length : findOrder (noCalls 2) (replicate 7 7) ≡ gives 7
   pub found-too-short : findOrder (noCalls 2) (replicate 6 7) ≡ refuses 17 []
   -- amounts with the same zero counts, and with others
   pub amounts-read : readAmounts (noCalls 2) stock ≡ gives (record { lots = 2; calls = 0 })
+  pub amounts-of-calls : readAmounts (noLots 1) (amounts 0 1 (1 ∷ [])) ≡ gives (record { lots = 0; calls = 1 })
   pub amounts-differ : readAmounts (noLots 2) stock ≡ refuses 15 []
   -- no calls: Covered, or Full where the lots are empty too; no lots: Short, or Full where nothing is asked. A flow of no entries is enough
   pub stock-alone : findAndRun (noCalls 2) stock [] ≡ placesNone covered
@@ -92,16 +95,19 @@ empty-cases =
       calls-above-32 = refl;
       lots-above-32 = refl;
       row-missing = refl;
+      word-cut = refl;
       word-not-0 = refl;
       bytes-after = refl;
       lot-costs = refl;
       pair-cost = refl;
       passes = refl;
       pair-listed = refl;
+      pair-listed-no-lots = refl;
       found = refl;
       found-length = refl;
       found-too-short = refl;
       amounts-read = refl;
+      amounts-of-calls = refl;
       amounts-differ = refl;
       stock-alone = refl;
       no-stock = refl;

@@ -21,7 +21,7 @@ use Rattle.specification.specs.Costs.{costBase}
 use Rattle.specification.specs.Book.{bookVersion, problemOf, costsOf, lotCosts}
 use Rattle.specification.specs.OrderFile.{orderCount, orderPairs, orderFile}
 use Rattle.specification.specs.Check.{checkOrder}
-use Rattle.specification.specs.Run.{runFlow}
+use Rattle.specification.specs.Run.{runOrder, runFlow}
 use Rattle.specification.specs.Find.{orderLength, foundOrder, findOrder, findBuffer, foundToRun, findAndRun, findAndRunFlow}
 use Rattle.specification.specs.Idle.{foundToRunIdle, findAndRunIdle, findAndRunIdleFlow}
 use Rattle.specification.specs.Text.{textOf, printed}
@@ -106,7 +106,9 @@ module _ (book buffer : List ℕ) (n : ℕ) (e : findOrder book buffer ≡ gives
 
 -- Demand 2
 pub demand2 : Demand2
+unfolding runOrder
 demand2 = record {
+  runs-passing = λ book order amounts flow k vs e. rw e refl;
   book-limits = book-limits;
   lot-costs = λ book n e i j (inside, _, admitted). lot-cost-held book n e i inside j admitted;
   lot-costs-length = lot-costs-length;

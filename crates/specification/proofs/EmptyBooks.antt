@@ -2,21 +2,20 @@
 -- past such rows one by one: the reply is that of the first row which is not so, or of what follows the last.
 use mathlib.Core.Path.{_≡_, refl, _∙_, ap}
 use mathlib.Core.Logic.{_⊎_, inl, inr, ⊎-elim, _↔_}
-use mathlib.Core.Bool.{or-true}
+use mathlib.Core.Bool.{Bool, _&&_, or-true}
 use mathlib.Core.List.{List, [], _∷_}
 use Prim.Native.Nat.{ℕ, zero, suc, _+_, _*_, _-_, _^_, _≤_, _<_}
 use native.Mathlib.Omega.{arith}
 use borrow.Author.Tests.{lt-ltb, le-ltb, le-leb}
-use lib.Dec.{ltb}
+use lib.Dec.{ltb, eqb, eqb→eq}
 use lib.Count.{ones, ones-le}
 use lib.ListN.{length, drop, length-drop}
 use lib.Pow.{pow-pos}
-use Rattle.transport.proofs.Laws.Tests.{below-suc}
+use Rattle.transport.proofs.Laws.Tests.{T-false, and-says, below-suc}
 use Rattle.specification.specs.Reply.{Reply, gives, refuses, _>>=_, Size}
-use Rattle.specification.specs.Bytes.{u32At, bookMark, amountsMark, readOpening}
+use Rattle.specification.specs.Bytes.{byteAt, u32At, bookMark, amountsMark, readOpening}
 use Rattle.specification.specs.Book.{rowWord, readRow, readRows, bookVersion, bookLots, bookCalls, readBook, rowAt, rowStart}
-use Rattle.specification.specs.Amounts.{readAmounts}
-use Rattle.specification.specs.Demands.{Readable}
+use Rattle.specification.specs.Amounts.{readAmountsOf, readAmounts}
 use Rattle.specification.specs.EmptyDesk.{EmptyOpening, NoBits, AmountsOf}
 use Rattle.specification.proofs.Replies.{passes-exactly}
 use Rattle.specification.proofs.Numbers.{u32-drop}
@@ -121,14 +120,17 @@ module _ (book : List ℕ) where
 
     pub empty-8 : NoBits book (bookLots book) → 7 + 4 * bookLots book < length book → readBook book ≡ refuses 8 []
     unfolding readRows
-    empty-8 none after = past {r = refuses 8 []} none (rw (lt-ltb 0 (length (rowAt book (bookLots book))) (omega (arith, row-length (bookLots book) none))) refl)
+    empty-8 none after =
+        let over = lt-ltb 0 (length (rowAt book (bookLots book))) (omega (arith, row-length (bookLots book) none)) in
+        past {r = refuses 8 []} none (rw over refl)
 
     -- where each word is 0 it is read
-    reads-if : NoBits book (bookLots book) → length book ≡ 7 + 4 * bookLots book → Readable book
+    reads-if : NoBits book (bookLots book) → length book ≡ 7 + 4 * bookLots book
+        → readBook book ≡ gives (record { lots = bookLots book; calls = bookCalls book })
     unfolding readRows
     reads-if none ends =
         let over = le-ltb 0 (length (rowAt book (bookLots book))) (omega (arith, row-length (bookLots book) none)) in
-        (_, past {r = gives tt} none (rw over refl))
+        past {r = gives tt} none (rw over refl)
 
     -- and where it is read each word is 0
     module _ {n : Size} (read : BookRead book n) where
@@ -143,9 +145,10 @@ module _ (book : List ℕ) where
       ends-there : length book ≡ 7 + 4 * bookLots book
       ends-there = book-ends read ∙ starts (bookLots book) (no-bits (bookLots book) (omega arith))
 
-    pub empty-reads : Readable book ↔ (NoBits book (bookLots book) × (length book ≡ 7 + 4 * bookLots book))
+    pub empty-reads : (readBook book ≡ gives (record { lots = bookLots book; calls = bookCalls book }))
+        ↔ (NoBits book (bookLots book) × (length book ≡ 7 + 4 * bookLots book))
     empty-reads = (
-      λ (n, reads). let read = book-read book n reads in (no-bits read (bookLots book) (omega arith), ends-there read),
+      λ reads. let read = book-read book _ reads in (no-bits read (bookLots book) (omega arith), ends-there read),
       λ (none, ends). reads-if none ends,
     )
 
@@ -166,6 +169,17 @@ pub four-of : (book : List ℕ) → readOpening bookMark 2 book ≡ gives tt →
 unfolding readBook
 four-of book opens (inl lots) = rw (opens, lt-ltb 32 (bookLots book) lots) refl
 four-of book opens (inr calls) = rw (opens, lt-ltb 32 (bookCalls book) calls, or-true (ltb 32 (bookLots book))) refl
+
+pub differ-15 : (book amounts : List ℕ) (n : Size) → readBook book ≡ gives n → readOpening amountsMark 1 amounts ≡ gives tt
+    → ((byteAt amounts 5 ≡ n .lots) × (byteAt amounts 6 ≡ n .calls) → ⊥) → readAmounts book amounts ≡ refuses 15 []
+unfolding readAmounts readAmountsOf
+differ-15 book amounts n reads opens differ =
+    let same-lots : Bool = eqb (byteAt amounts 5) (n .lots) in
+    let same-calls : Bool = eqb (byteAt amounts 6) (n .calls) in
+    let not-both-same = T-false (same-lots && same-calls) (λ t.
+    let (lots, calls) = and-says same-lots same-calls t in
+    differ (eqb→eq (byteAt amounts 5) (n .lots) lots, eqb→eq (byteAt amounts 6) (n .calls) calls)) in
+    rw (reads, opens, not-both-same) refl
 
 pub amounts-exactly : (book amounts : List ℕ) (n : Size) → readBook book ≡ gives n → (readAmounts book amounts ≡ gives n) ↔ AmountsOf n amounts
 amounts-exactly book amounts n reads = (

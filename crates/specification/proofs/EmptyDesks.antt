@@ -2,10 +2,10 @@
 -- an order is always found: the enlarged book has no lots either, or the idle call alone.
 use mathlib.Core.Path.{_≡_, refl, sym, _∙_, ap}
 use mathlib.Core.Logic.{inl, inr, ⊎-elim, by-cases}
-use mathlib.Core.Bool.{cond}
+use mathlib.Core.Bool.{false, cond}
 use mathlib.Core.List.{List, [], _∷_, _++_, append-nil}
 use mathlib.Core.Option.{Option, some, none}
-use Prim.Native.Nat.{ℕ, zero, suc, _*_, _≤_, _<_}
+use Prim.Native.Nat.{ℕ, zero, suc, _+_, _*_, _≤_, _<_}
 use native.Mathlib.Decide.{decLt}
 use native.Mathlib.Omega.{arith}
 use borrow.Author.Tests.{lt-ltb, le-ltb}
@@ -15,6 +15,7 @@ use lib.ListN.{length, take, drop, replicate}
 use Rattle.transport.specs.Problem.{sum}
 use Rattle.transport.specs.Greedy.{Pair}
 use Rattle.transport.specs.Finder.{find}
+use Rattle.transport.proofs.Laws.Tests.{T-false}
 use Rattle.transport.proofs.Orders.OneCall.{one-call-order}
 use Rattle.transport.proofs.Greedy.Signed.{idle-lifts}
 use Rattle.transport.proofs.Finder.Find.{find-none}
@@ -22,7 +23,7 @@ use Rattle.specification.specs.Reply.{gives, refuses, Size, Outcome, ful
 use Rattle.specification.specs.Book.{rowWord, bookLots, bookCalls, rowAt, problemOf, costsOf, lotCosts, outside, pairCost}
 use Rattle.specification.specs.Amounts.{readAmounts}
 use Rattle.specification.specs.OrderFile.{orderCount, pairs, orderPairs, orderFile}
-use Rattle.specification.specs.Check.{checkOrder}
+use Rattle.specification.specs.Check.{checkPairs, checkOrder}
 use Rattle.specification.specs.Run.{greedyOn, outcome, runOrder, runFlow}
 use Rattle.specification.specs.Find.{orderLength, foundOrder, findOrder, findBuffer, findAndRun, findAndRunFlow}
 use Rattle.specification.specs.Idle.{enlarged, lotsTotal, callsTotal, findAndRunIdle, findAndRunIdleFlow}
@@ -31,10 +32,10 @@ use Rattle.specification.specs.Demands.{OrderShaped}
 use Rattle.specification.specs.Requests.{Allowed}
 use Rattle.specification.specs.EmptyDesk.{Empty, EmptyDesk, EmptyAmounts, nothingPlaced, Request5}
 use Rattle.specification.proofs.Replies.{not-both, said-of-given, gives-if-never-refused}
-use Rattle.specification.proofs.Books.{book-read, book-refused, book-lifts}
-use Rattle.specification.proofs.EmptyBooks.{empty-reads, empty-6, empty-5, empty-8, four-says, four-of, amounts-exactly}
+use Rattle.specification.proofs.Books.{book-read, book-refused, book-lifts, admitted-inside}
+use Rattle.specification.proofs.EmptyBooks.{empty-reads, empty-6, empty-5, empty-8, four-says, four-of, amounts-exactly, differ-15}
 use Rattle.specification.proofs.AmountsFiles.{amounts-read, book-of-amounts}
-use Rattle.specification.proofs.NothingPlaced.{some-not-none, no-cells, no-size, no-pairs, found-none}
+use Rattle.specification.proofs.NothingPlaced.{some-not-none, none-eligible, no-cells, no-size, no-pairs, found-none}
 use Rattle.specification.proofs.NothingPlaced.{nothing-placed, nothing-written}
 use Rattle.specification.proofs.Checks.{check-says, check-passes}
 use Rattle.specification.proofs.OrderFiles.{count-back, order-back, order-file-shaped}
@@ -90,6 +91,26 @@ module _ (book : List ℕ) (n : Size) (desk : EmptyDesk book n) where
         each-once = rw empty-count (rw (order-back []) at (found .each-once));
         monge = rw empty-count (rw (order-back []) at (found .monge));
       }))
+
+  -- any pair is refused at place 0
+  listed-9 : (order : List ℕ) → OrderShaped order → 0 < orderCount order → checkOrder book order ≡ refuses 9 (0 ∷ [])
+  unfolding checkOrder checkPairs pairs
+  listed-9 order shaped listed =
+      let count : ℕ = orderCount order in
+      rw (
+        desk .0,
+        shaped .opening,
+        le-ltb (length order) (7 + 2 * count) (omega (arith, shaped .whole)),
+        le-ltb (7 + 2 * count) (length order) (omega (arith, shaped .whole)),
+        at-first count listed,
+      ) refl
+    where
+      none-admitted : (i j : ℕ) → problemOf book .admits i j ≡ false
+      none-admitted i j = T-false (problemOf book .admits i j) (λ t. none-eligible (problemOf book) empty i j (admitted-inside book i j t))
+
+      at-first : (count : ℕ) → 0 < count → checkPairs (problemOf book) [] 0 (pairs count (drop 7 order)) ≡ refuses 9 (0 ∷ [])
+      at-first zero h = absurd (omega arith)
+      at-first (suc count) h = rw (none-admitted _ _) refl
 
   -- what the finder writes
   finds-none : (buffer : List ℕ) → 7 ≤ length buffer
@@ -201,9 +222,11 @@ request5 = record {
   lot-costs = no-costs;
   pair-cost = never-inside;
   passes = λ book order n desk k. (passing-none book n desk order k, λ (e, shaped, count). rw e (none-passes book n desk order shaped count));
+  listed = λ book order n desk. listed-9 book n desk order;
   finds = λ book buffer n desk. finds-none book n desk buffer;
   finds-17 = λ book buffer n desk. refuses-17 book n desk buffer;
   amounts = amounts-exactly;
+  amounts-15 = differ-15;
   run = λ book order amounts flow n k given. runs-none book amounts n given order flow k;
   find-and-run = λ book amounts flow n given. finds-and-runs book amounts n given flow;
   find-and-run-idle = λ book amounts flow n given. runs-idle book amounts n given flow;

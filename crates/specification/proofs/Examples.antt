@@ -29,7 +29,7 @@ use Rattle.specification.specs.EmptyDesk.{EmptyDesk, EmptyAmounts, Empty
 use Rattle.specification.specs.Examples.{book, amounts, book1235, amounts5436, bookGap, bookEmpty, bookDiagonal, known-examples}
 use Rattle.specification.proofs.AllCases.{bookCorners, bookSpare, amountsSpare, idle-cases, bookSteps}
 use Rattle.specification.proofs.AllRebates.{singleSigned, lowCost, bookRebates, bookRebate, amountsRebate, rebate-cases}
-use Rattle.specification.proofs.AllEmptyDesks.{noCalls, noLots, stock, empty-cases}
+use Rattle.specification.proofs.AllEmptyDesks.{noCalls, noLots, nothingYet, stock, empty-cases}
 use Rattle.specification.proofs.Replies.{not-both}
 use Rattle.specification.proofs.Books.{admitted-inside}
 use Rattle.specification.proofs.Verdicts.{short-not-full, short-not-covered}
@@ -100,10 +100,13 @@ pub record NotVacuous : Type 0 where
   pub idle-below-zero : SomeMeetsCalls bookRebate amountsRebate
       × ((x : ℕ → ℕ → ℕ) → MeetsCalls (problemOf bookRebate) (lotAmount amountsRebate) (callAmount bookRebate amountsRebate) x
       → negsuc 5 ≤ℤ signedCost (problemOf bookRebate) (costsOf bookRebate) x)
-  -- a desk without lots, and one without calls and with its amounts; files that open so and have, in turn, each word 0, the second not, and
-  -- the first row alone
+  -- desks without lots and without calls, with amounts
   pub no-lots-yet : EmptyDesk (noLots 32) (record { lots = 0; calls = 32 })
-  pub no-calls-yet : EmptyAmounts (noCalls 2) stock (record { lots = 2; calls = 0 })
+  pub no-calls-yet : EmptyDesk (noCalls 2) (record { lots = 2; calls = 0 })
+  pub no-lots-asked : EmptyAmounts (noLots 1) (amounts 0 1 (1 ∷ [])) (record { lots = 0; calls = 1 })
+  pub no-calls-stocked : EmptyAmounts (noCalls 2) stock (record { lots = 2; calls = 0 })
+  -- files that open so, of either version and as large as they may be; with each word 0, with the second not, and with the first row alone
+  pub open-so : EmptyOpening (noLots 32) × EmptyOpening (noCalls 32) × EmptyOpening nothingYet
   pub each-word-0 : EmptyOpening (noCalls 2) × NoBits (noCalls 2) 2
   pub second-word-1 : EmptyOpening (book 2 0 (0 ∷ 1 ∷ [])) × NoBits (book 2 0 (0 ∷ 1 ∷ [])) 1
   pub second-row-missing : EmptyOpening (book 2 0 (0 ∷ [])) × NoBits (book 2 0 (0 ∷ [])) 1
@@ -207,6 +210,14 @@ opens-empty : (rows : List ℕ) → EmptyOpening (book 2 0 rows)
 unfolding u16At readOpening
 opens-empty rows = record { opens = rw (le-ltb (length (book 2 0 rows)) 7 (omega arith)) refl; lots-few = lit≤ tt; calls-few = lit≤ tt; empty = inr refl }
 
+opens-most : EmptyOpening (noLots 32) × EmptyOpening (noCalls 32) × EmptyOpening nothingYet
+unfolding u16At readOpening
+opens-most = (
+  record { opens = refl; lots-few = lit≤ tt; calls-few = lit≤ tt; empty = inl refl },
+  record { opens = refl; lots-few = lit≤ tt; calls-few = lit≤ tt; empty = inr refl },
+  record { opens = refl; lots-few = lit≤ tt; calls-few = lit≤ tt; empty = inl refl },
+)
+
 first-0 : (rows : List ℕ) → NoBits (book 2 0 (0 ∷ rows)) 1
 unfolding u16At u32At
 first-0 rows = record { stand = omega arith; are-0 = λ i h. let first : i ≡ 0 = omega arith in rw first refl }
@@ -252,8 +263,11 @@ not-vacuous =
       least-below-zero = (rebates .verdicts .full-iff .0 refl, rebates .least-cost);
       idle-below-zero = (idle-rebate .covered-by-totals .0 refl .1, idle-rebate .least-cost);
       no-lots-yet = (empty-cases .reads-no-lots, inl refl);
-      no-calls-yet = (empty-cases .amounts-read, inr refl);
-      each-word-0 = (opens-empty (0 ∷ 0 ∷ []), request5 .reads (noCalls 2) (opens-empty (0 ∷ 0 ∷ [])) .0 (_, empty-cases .reads-no-calls) .0);
+      no-calls-yet = (empty-cases .reads-no-calls, inr refl);
+      no-lots-asked = (empty-cases .amounts-of-calls, inl refl);
+      no-calls-stocked = (empty-cases .amounts-read, inr refl);
+      open-so = opens-most;
+      each-word-0 = (opens-empty (0 ∷ 0 ∷ []), request5 .reads (noCalls 2) (opens-empty (0 ∷ 0 ∷ [])) .0 (empty-cases .reads-no-calls) .0);
       second-word-1 = (opens-empty (0 ∷ 1 ∷ []), first-0 (1 ∷ []));
       second-row-missing = (opens-empty (0 ∷ []), first-0 []);
     }

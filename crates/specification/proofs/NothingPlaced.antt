@@ -34,7 +34,7 @@ some-not-none e = let z : _≡_ {A = ℕ} 0 1 = cc in omega arith
 
 -- no pair is eligible
 module _ (P : Problem) (empty : Empty (P .lots) (P .calls)) where
-  none-eligible : (i j : ℕ) → Eligible P i j → ⊥
+  pub none-eligible : (i j : ℕ) → Eligible P i j → ⊥
   none-eligible i j (hi, hj, t) = ⊎-elim (λ (e : P .lots ≡ 0). omega arith) (λ (e : P .calls ≡ 0). omega arith) empty
 
   pub no-cells : P .lots * P .calls ≡ 0

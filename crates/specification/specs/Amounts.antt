@@ -39,6 +39,6 @@ readAmountsOf size s = do
   _ ← refuseIf (not (every (size .lots + size .calls) (λ k. leb (amountAt s k) amountLimit))) 16 []
   gives size
 
--- amounts with their book: the book first, "a refused book stops the work before .. amounts are looked at"
+-- amounts with their book: the book first, "A refused book stops the work before .. amounts are looked at"
 unfoldable pub readAmounts : List ℕ → List ℕ → Reply Size
 readAmounts book s = readBook book >>= λ size. readAmountsOf size s

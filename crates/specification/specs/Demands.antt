@@ -169,6 +169,9 @@ pub record Demand2 : Type 0 where
   pub passes : (book order : List ℕ) → Passing book order → checkOrder book order ≡ gives (orderCount order)
   -- and only when
   pub only-these : (book order : List ℕ) (n : ℕ) → checkOrder book order ≡ gives n → Passing book order
+  -- "Only an order that passes the check is run" (document 01)
+  pub runs-passing : (book order amounts flow : List ℕ) (k : ℕ) (vs : List ℕ) → checkOrder book order ≡ refuses k vs
+      → runOrder book order amounts flow ≡ refuses k vs
   -- "a run's flow, units and cost are those of their GREEDY", and its verdict says what they leave
   pub runs : (book order amounts flow : List ℕ) (o : Outcome) → runOrder book order amounts flow ≡ gives o
       → Ran (problemOf book) (costsOf book) (lotAmount amounts) (callAmount book amounts) (greedyOn book (orderPairs order) amounts .given)
@@ -215,7 +218,7 @@ pub record Best (book amounts : List ℕ) (o : Outcome) : Type 0 where
 pub record ByPassing (book order : List ℕ) : Type 0 where
   -- "The returned order is good"
   pub good : GoodOrder (problemOf book) (costsOf book) (orderPairs order)
-  -- "Whatever the amounts within the limits, totals equal or not, every other allocation has at most as many units as GREEDY by it"
+  -- "Whatever the amounts within the limits, totals equal or not, every other allocation has at most as many units as GREEDY" by it
   pub most-units : (a b : ℕ → ℕ) → Within amountLimit (problemOf book) a b → (x : ℕ → ℕ → ℕ) → Allocation (problemOf book) a b x
       → units (problemOf book) x ≤ units (problemOf book) (greedy (orderPairs order) a b .given)
   -- "A run of the book by it is refused only for its amounts or its flow buffer"

@@ -18,7 +18,7 @@ use Rattle.specification.specs.Run.{verdictBy, runOrder, runFlow}
 use Rattle.specification.specs.Find.{findOrder, findBuffer, findAndRun, findAndRunFlow}
 use Rattle.specification.specs.Idle.{lotsTotal, callsTotal, findAndRunIdle, findAndRunIdleFlow}
 use Rattle.specification.specs.Text.{decimal, line, verdictWord, bookMost, amountsMost, printed}
-use Rattle.specification.specs.Demands.{Readable, OrderShaped}
+use Rattle.specification.specs.Demands.{OrderShaped}
 
 -- "n or m equal to 0"
 abbrev pub Empty : ℕ → ℕ → Type 0
@@ -62,8 +62,9 @@ nothingPlaced book amounts = record {
 pub record Request5 : Type 0 where
   -- "A book with n or m equal to 0 is now read: it has its rows, possibly none, and each word must be 0 if there are no calls"
   pub reads : (book : List ℕ) → EmptyOpening book
-      → Readable book ↔ (NoBits book (bookLots book) × (length book ≡ 7 + 4 * bookLots book))
-  -- else, lot by lot, 6 where the word is cut, 5 "with the lot" where it is not 0, and 8 for what follows the last
+      → (readBook book ≡ gives (record { lots = bookLots book; calls = bookCalls book }))
+      ↔ (NoBits book (bookLots book) × (length book ≡ 7 + 4 * bookLots book))
+  -- else, lot by lot, 6 where the word is cut, 5 with the lot where it is not 0, and 8 for what follows the last
   pub refused-6 : (book : List ℕ) → EmptyOpening book → (i : ℕ) → i < bookLots book → NoBits book i
       → length book < 7 + 4 * i + 4 → readBook book ≡ refuses 6 []
   pub refused-5 : (book : List ℕ) → EmptyOpening book → (i : ℕ) → i < bookLots book → NoBits book i
@@ -80,12 +81,18 @@ pub record Request5 : Type 0 where
   -- "Its order has no pairs": an order file that counts none, and so has 7 bytes, passes the check, and no other,
   pub passes : (book order : List ℕ) (n : Size) → EmptyDesk book n → (k : ℕ)
       → (checkOrder book order ≡ gives k) ↔ ((k ≡ 0) × OrderShaped order × (orderCount order ≡ 0))
-  -- and the finder writes one
+  -- any pair listed is 9, at the first place,
+  pub listed : (book order : List ℕ) (n : Size) → EmptyDesk book n → OrderShaped order → 0 < orderCount order
+      → checkOrder book order ≡ refuses 9 (0 ∷ [])
+  -- and the finder writes the one that passes
   pub finds : (book buffer : List ℕ) (n : Size) → EmptyDesk book n → 7 ≤ length buffer
       → (findOrder book buffer ≡ gives 7) × (findBuffer book buffer ≡ orderFile [] ++ drop 7 buffer)
   pub finds-17 : (book buffer : List ℕ) (n : Size) → EmptyDesk book n → length buffer < 7 → findOrder book buffer ≡ refuses 17 []
   -- "Amounts may have the same zero counts": they are read as with every book
   pub amounts : (book amounts : List ℕ) (n : Size) → readBook book ≡ gives n → (readAmounts book amounts ≡ gives n) ↔ AmountsOf n amounts
+  -- and 15 where a count differs
+  pub amounts-15 : (book amounts : List ℕ) (n : Size) → readBook book ≡ gives n → readOpening amountsMark 1 amounts ≡ gives tt
+      → ((byteAt amounts 5 ≡ n .lots) × (byteAt amounts 6 ≡ n .calls) → ⊥) → readAmounts book amounts ≡ refuses 15 []
   -- every run of such a desk is accepted, with a flow buffer of any length, and writes nothing:
   -- by an order that passes,
   pub run : (book order amounts flow : List ℕ) (n : Size) (k : ℕ) → EmptyAmounts book amounts n → checkOrder book order ≡ gives k
@@ -97,7 +104,7 @@ pub record Request5 : Type 0 where
   pub find-and-run-idle : (book amounts flow : List ℕ) (n : Size) → EmptyAmounts book amounts n
       → callsTotal book amounts ≤ lotsTotal book amounts → n .calls < 32
       → (findAndRunIdle book amounts flow ≡ gives (nothingPlaced book amounts)) × (findAndRunIdleFlow book amounts flow ≡ flow)
-  -- "a desk without calls is Full or Covered by the usual sums"
+  -- "a desk without calls is Full or Covered by the usual sums": each of these replies
   pub no-calls : (book amounts : List ℕ) (n : Size) → readAmounts book amounts ≡ gives n → n .calls ≡ 0
       → nothingPlaced book amounts .verdict ≡ cond (eqb (lotsTotal book amounts) 0) full covered
   -- and one without lots is Full or Short
