@@ -8,34 +8,33 @@ fn run(label: &[u8], book: &[u8], amounts: &[u8]) {
     super::show::placed(label, b"run_order", answer, &flow);
 }
 
+// Finds and runs with an idle call, with such a flow.
 fn find_and_run_idle(label: &[u8], book: &[u8], amounts: &[u8]) {
     let mut flow = [7u32; 0];
     let answer = placer::find_and_run_idle(book, amounts, &mut flow);
     super::show::placed(label, b"find_and_run_idle", answer, &flow);
 }
 
-// A book of a version with n lots and m calls, of which one is 0, and amounts that are 0 but for the first.
-fn desk(label: &[u8], version: u8, n: u8, m: u8, first: u8) {
-    let counts = n as u16 + 256 * (m as u16);
-    let mut book = [0u8; 135];
-    files::write_opening(&mut book, &files::BOOK_MARK, counts);
-    book[3] = version;
+// Places by a book, with amounts that have its counts and are 0 but for the first.
+fn desk(label: &[u8], book: &[u8], first: u8) {
     let mut amounts = [0u8; 135];
-    files::write_opening(&mut amounts, &files::AMOUNTS_MARK, counts);
+    files::write_opening(&mut amounts, &files::AMOUNTS_MARK, files::u16_at(book, 5));
     amounts[7] = first;
-    let book_file = super::file(&book, 7 + 4 * (n as usize));
-    let amounts_file = super::file(&amounts, 7 + 4 * (n as usize + m as usize));
-    run(label, book_file, amounts_file);
-    super::find_and_run(label, book_file, amounts_file);
-    find_and_run_idle(label, book_file, amounts_file);
+    let count = files::u8_at(book, 5) as usize + files::u8_at(book, 6) as usize;
+    let amounts_file = super::file(&amounts, 7 + 4 * count);
+    run(label, book, amounts_file);
+    super::find_and_run(label, book, amounts_file);
+    find_and_run_idle(label, book, amounts_file);
 }
 
 pub fn desks() {
-    desk(b"Nothing at all", 1, 0, 0, 0);
-    desk(b"Two calls alone", 2, 0, 2, 3);
-    desk(b"31 calls of 0 units", 1, 0, 31, 0);
-    desk(b"32 calls of 0 units", 2, 0, 32, 0);
-    desk(b"32 calls alone", 1, 0, 32, 1);
-    desk(b"Two lots alone", 1, 2, 0, 4);
-    desk(b"32 lots of 0 units", 2, 32, 0, 0);
+    desk(b"Nothing at all", b"CLB\x01\0\0\0", 0);
+    desk(b"Two calls alone", b"CLB\x02\0\0\x02", 3);
+    desk(b"32 calls of 0 units", b"CLB\x01\0\0\x20", 0);
+    desk(b"Two lots alone", b"CLB\x01\0\x02\0\0\0\0\0\0\0\0\0", 4);
+    desk(
+        b"Two lots of 0 units",
+        b"CLB\x02\0\x02\0\0\0\0\0\0\0\0\0",
+        0,
+    );
 }
