@@ -77,9 +77,10 @@ def lend(data: BytesLike) -> Tuple[Any, int]:
 def lend_items(buffer: Writable, size: int) -> Tuple[Any, int]:
     """Return what ctypes passes for a slice to write, and its count of items of `size` bytes."""
     view = memoryview(buffer)
-    if view.readonly or not view.c_contiguous or view.itemsize != size or view.format[-1] not in "bBcIiLl":
+    # In Python 3.9 the items of a ctypes array that has none are 0 bytes long.
+    if view.readonly or not view.c_contiguous or view.itemsize not in (size, 0) or view.format[-1] not in "bBcIiLl":
         raise TypeError(f"a writable buffer of {8 * size}-bit whole numbers is needed")
-    return (ctypes.c_uint8 * view.nbytes).from_buffer(view), len(view)
+    return (ctypes.c_uint8 * view.nbytes).from_buffer(view), view.nbytes // size
 
 
 def apart(lent: Tuple[Any, int], *files: Tuple[Any, int]) -> None:

@@ -268,5 +268,5 @@ def place(costs: Costs, lots: Sequence[int], calls: Sequence[int], *, idle: bool
         Placing(verdict=Verdict.COVERED, units=0, cost=0, flow=((), ()))
     """
     run = find_and_run_idle if idle else find_and_run
-    book = book_bytes(costs, None if costs else len(calls))  # without rows the amounts tell how many calls there are
+    book = book_bytes(costs, None if len(costs) else len(calls))  # without rows the amounts tell how many calls there are
     return run(book, amounts_bytes(lots, calls))

@@ -56,7 +56,7 @@ def book_bytes(costs: Costs, calls: Optional[int] = None) -> bytes:
         ('434c42 01000002', '434c42 01000100 00000000')
     """
     if calls is None:
-        calls = len(costs[0]) if costs else 0
+        calls = len(costs[0]) if len(costs) else 0
     signed = any(operator.index(cost) < 0 for row in costs for cost in row if cost is not None)
     parts = [_opening(b"CLB", _small([len(costs), calls]), 2 if signed else 1)]
     for lot, row in enumerate(costs):

@@ -1,5 +1,6 @@
 """What the calls take: every bytes-like object, whole numbers, and buffers of the right kind."""
 
+import ctypes
 import dataclasses
 import mmap
 import os
@@ -78,6 +79,17 @@ class Arguments(Case):
         flow = memoryview(bytearray(16)).cast("I")
         placer.find_and_run(BOOK, AMOUNTS, flow)
         self.assertEqual(flow.tolist(), [0, 5, 3, 1])
+
+    def test_shapes(self):
+        """The items of a buffer are counted by its bytes, whatever its shape."""
+        square = (ctypes.c_uint32 * 2 * 2)()
+        placer.find_and_run(BOOK, AMOUNTS, square)
+        self.assertEqual([list(row) for row in square], [[0, 5], [3, 1]])
+        room = bytearray(64)
+        none, no_bytes = (ctypes.c_uint32 * 0 * 8).from_buffer(room), (ctypes.c_uint8 * 0 * 40).from_buffer(room)
+        self.assertRaisesRegex(placer.Refused, "refused 17", placer.find_and_run, BOOK, AMOUNTS, none)
+        self.assertRaisesRegex(placer.Refused, "refused 17", placer.find_order, BOOK, no_bytes)
+        self.assertEqual(room, bytes(64))
 
     def test_overlap(self):
         """A buffer to write that shares memory with a file is an error, and the file is as it was."""
