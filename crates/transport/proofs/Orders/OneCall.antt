@@ -7,7 +7,7 @@ use Prim.Native.Nat.{ℕ, zero, suc, _<_}
 use native.Mathlib.Decide.{ℕ-discrete}
 use native.Mathlib.Omega.{arith}
 use lib.Dec.{T}
-use Rattle.transport.specs.Problem.{Problem, Eligible}
+use Rattle.transport.specs.Problem.{Problem}
 use Rattle.transport.specs.Greedy.{Pair, pair}
 use Rattle.transport.specs.Order.{times, OrderOf, Monge}
 use Rattle.transport.proofs.Laws.Tests.{same→eq}
