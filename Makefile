@@ -14,7 +14,7 @@ build/libplacer.a: $(SOURCES)
 	cp target/staticlib/libplacer_c.a $@
 
 build/libplacer.so: build/libplacer.a
-	$(CC) -shared -Wl,-soname,libplacer.so.$(MAJOR) -Wl,--whole-archive $< -Wl,--no-whole-archive -o $@
+	$(CC) -shared -Wl,-z,now -Wl,-soname,libplacer.so.$(MAJOR) -Wl,--whole-archive $< -Wl,--no-whole-archive -o $@
 	ln -sf libplacer.so build/libplacer.so.$(MAJOR)
 
 # the printing program, of which only a proved one is linked

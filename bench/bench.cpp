@@ -1,6 +1,6 @@
 // Measures the entry points beside LEMON, CLP and GLPK in one process, in interleaved rounds, and compares every answer.
 //   bench time      a line a figure:  time FAMILY SIZE CALL MEDIAN   (microseconds a call, tabs between fields)
-//   bench count     under callgrind: one dump of instruction counts for each family and call at 32
+//   bench count     under callgrind: one dump of instruction counts for each family, call and size that is counted
 // The exit status is 1 if any answer differs.
 #include <placer.h>
 
@@ -21,7 +21,6 @@
 
 static const char *const families[] = {"natural", "permuted", "few levels", "all equal", "band", "sparse"};
 static const size_t complete = 4;  // so many of these have all pairs eligible, and are measured with an idle call too
-static const int sizes[] = {8, 16, 24, 32};
 static uint32_t flow[1024];
 static uint8_t order[2055];
 static long compared, differing;
@@ -32,6 +31,10 @@ static Answer placed(const placer_reply &reply) {
 
 static Answer by_find_and_run(const Problem &p) {
     return placed(placer_find_and_run(p.book.data(), p.book.size(), p.amounts.data(), p.amounts.size(), flow, 1024));
+}
+
+static Answer by_find_and_run_panel(const Problem &p) {
+    return placed(placer_find_and_run_panel(p.book.data(), p.book.size(), p.amounts.data(), p.amounts.size(), flow, 1024));
 }
 
 static Answer by_run(const Problem &p) {
@@ -81,6 +84,29 @@ static const std::vector<Call> idle_calls = {
     {"LEMON, idle", 64, 21, [](const Problem &p, const Answer &) { return by_lemon(p); }},
 };
 
+// More books than elsewhere: the calls are so short that a reading of the clock would count beside 64 of them. LEMON runs before each of
+// our two calls, since of two in a row on the same books the second is faster; the page shows its first figure.
+static const std::vector<Call> panel_calls = {
+    {"find_and_run_panel", 256, 21, [](const Problem &p, const Answer &) { return by_find_and_run_panel(p); }},
+    {"LEMON, panel", 256, 21, [](const Problem &p, const Answer &) { return by_lemon(p); }},
+    {"find_and_run, panel", 256, 21, [](const Problem &p, const Answer &) { return by_find_and_run(p); }},
+    {"LEMON, panel, again", 256, 21, [](const Problem &p, const Answer &) { return by_lemon(p); }},
+};
+
+// Calls that are measured beside each other, on the same books.
+struct Section {
+    const std::vector<Call> &calls;  // no call has more books than the first
+    size_t families;                 // the first so many
+    bool idle;
+    std::vector<int> timed, counted;  // the sizes
+};
+
+static const Section sections[] = {
+    {calls, std::size(families), false, {8, 16, 24, 32}, {32}},
+    {idle_calls, complete, true, {8, 16, 24, 32}, {32}},
+    {panel_calls, std::size(families), false, {1, 2, 4, 8}, {1, 2, 4, 8}},
+};
+
 static std::vector<Problem> make(const char *family, int size, size_t count, bool idle) {
     Maker maker(unsigned(size) * 31 + unsigned(family[0]));
     std::vector<Problem> problems;
@@ -118,9 +144,9 @@ static double now() {
     return 1e6 * double(time.tv_sec) + 1e-3 * double(time.tv_nsec);
 }
 
-static void time_family(const char *family, int size, bool idle) {
-    const std::vector<Call> &calls = idle ? idle_calls : ::calls;
-    const std::vector<Problem> problems = make(family, size, 64, idle);
+static void time_family(const Section &section, const char *family, int size) {
+    const std::vector<Call> &calls = section.calls;
+    const std::vector<Problem> problems = make(family, size, calls[0].books, section.idle);
     const Answers expected = solved(problems);
     Answers answers(problems.size());
     std::vector<std::vector<double>> times(calls.size());
@@ -134,17 +160,17 @@ static void time_family(const char *family, int size, bool idle) {
         }
     for (size_t c = 0; c < calls.size(); c++) {
         std::sort(times[c].begin(), times[c].end());
-        std::printf("time\t%s\t%d\t%s\t%.3f\n", family, size, calls[c].name, times[c][times[c].size() / 2]);
+        std::printf("time\t%s\t%d\t%s\t%.4f\n", family, size, calls[c].name, times[c][times[c].size() / 2]);
     }
     std::fflush(stdout);
 }
 
-static void count_family(const char *family, bool idle) {
-    const std::vector<Problem> problems = make(family, 32, 8, idle);
+static void count_family(const Section &section, const char *family, int size) {
+    const std::vector<Problem> problems = make(family, size, 8, section.idle);
     const Answers expected = solved(problems);
     Answers answers(problems.size());
-    for (const Call &call : idle ? idle_calls : calls) {
-        const std::string label = std::string(family) + "\t" + call.name;
+    for (const Call &call : section.calls) {
+        const std::string label = std::string(family) + "\t" + std::to_string(size) + "\t" + call.name;
         CALLGRIND_TOGGLE_COLLECT;
         pass(call, problems, expected, answers);
         CALLGRIND_TOGGLE_COLLECT;
@@ -154,13 +180,9 @@ static void count_family(const char *family, bool idle) {
 
 int main(int count, char **words) {
     const bool counting = count > 1 && !std::strcmp(words[1], "count");
-    for (size_t f = 0; f < std::size(families) + complete; f++) {
-        const bool idle = f >= std::size(families);
-        const char *const family = families[f % std::size(families)];
-        if (counting) count_family(family, idle);
-        for (int size : sizes)
-            if (!counting) time_family(family, size, idle);
-    }
+    for (const Section &section : sections)
+        for (size_t f = 0; f < section.families; f++)
+            for (int size : counting ? section.counted : section.timed) (counting ? count_family : time_family)(section, families[f], size);
     if (!counting) std::printf("answers\t%ld\t%ld\n", compared, differing);
     return differing != 0;
 }

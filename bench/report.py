@@ -24,6 +24,8 @@ CALLS = ["read_book", "check_order", "run_order", "find_order", "find_and_run", 
 SIZES = [8, 16, 24, 32]
 IDLE_CALLS = ["find_and_run_idle", "LEMON, idle"]
 IDLE_FAMILIES = list(FAMILIES)[:4]
+PANEL_CALLS = ["find_and_run_panel", "find_and_run, panel", "LEMON, panel"]
+PANEL_SIZES = [1, 2, 4, 8]
 LINES = {"run_order": "#0072b2", "find_and_run": "#009e73", "LEMON": "#d55e00", "CLP": "#cc79a7", "GLPK": "#777777"}
 
 HEAD = """# Benchmarks
@@ -31,8 +33,8 @@ HEAD = """# Benchmarks
 Written by `bench/run`; run it again to renew this page. Not a part of the gate.
 
 - The timing program runs {runs} times, one run after another. In a run a figure is the median over 21 interleaved rounds in one process (CLP
-  and GLPK: 3), a round being one pass over 64 different books of the family (CLP and GLPK: 8), so that no branch is learnt by heart. The
-  tables show the median of the {runs} runs, and the lowest and highest of them. No run is left out.
+  and GLPK: 3), a round being one pass over 64 different books of the family (CLP and GLPK: 8; for the ticket panel: 256), so that no
+  branch is learnt by heart. The tables show the median of the {runs} runs, and the lowest and highest of them. No run is left out.
 - Microseconds are of processor time a call. A ratio is of two figures of the same run, and the median is taken of the ratios.
 - Our calls start from the bytes of the files and end with the flow; `run_order` checks the order each time. The solvers are handed
   lists of pairs in memory, build their problem and solve it. LEMON is its network simplex with 64-bit numbers.
@@ -42,10 +44,30 @@ Written by `bench/run`; run it again to renew this page. Not a part of the gate.
 - {compared:,} answers (units and cost) were compared with LEMON's; {differing} differ.
 """
 
+PANEL = """
+## The ticket panel, up to eight by eight
+
+`find_and_run_panel` beside `find_and_run` and LEMON (building and solving), on the same books. LEMON has its turn before each of our two
+calls in every round, since of two calls in a row on the same books the second is a little faster. Up to 4 the books of *band* have the
+pairs of the diagonal only. The smaller the book, the more of its amounts are 0: at 1 those of about three books in four.
+"""
+
+CLEARING = """
+callgrind counts glibc's `rep stosb` once per byte (clearing an array of 4,096 bytes counts 4,115), so that calls which clear large arrays
+look dearer at small sizes than they are in time.
+"""
+
 
 def quantity(number):
     """Return a figure with two or three digits that mean something."""
-    return f"{number:,.0f}" if number >= 20 else f"{number:.1f}" if number >= 1 else f"{number:.2f}"
+    places = 0 if number >= 20 else 1 if number >= 1 else 2 if number >= 0.1 else 3
+    return f"{number:,.{places}f}"
+
+
+def plain(call):
+    """Return a call's name as the text has it, without the section that it was measured for."""
+    name = call.partition(",")[0]
+    return f"`{name}`" if "_" in name else name
 
 
 def table(head, rows):
@@ -73,20 +95,20 @@ def read_times(folder):
 
 
 def read_stack(path):
-    """Return the bytes of stack by call, and the header's bound."""
+    """Return the bytes of stack by call, and the header's bounds: of all calls, and of the ticket panel's."""
     text = path.read_text()
-    return re.findall(r"^stack: (.*) takes (\d+) bytes$", text, re.M), int(re.search(r"the header says (\d+)", text)[1])
+    return re.findall(r"^stack: (.*) takes (\d+) bytes$", text, re.M), *map(int, re.findall(r"the header says (\d+)", text))
 
 
 def read_counts(folder):
-    """Return the instructions a call, by family and call, of the callgrind dumps (8 books each)."""
+    """Return the instructions a call, by family, size and call, of the callgrind dumps (8 books each)."""
     counts = {}
     for path in folder.glob("callgrind.out.*"):
         text = path.read_text()
-        label = re.search(r"^desc: Trigger: Client Request: (.*)\t(.*)$", text, re.M)
+        label = re.search(r"^desc: Trigger: Client Request: (.*)\t(\d+)\t(.*)$", text, re.M)
         total = re.search(r"^(?:totals|summary): (\d+)", text, re.M)
         if label and total:
-            counts[label.groups()] = int(total[1]) / 8
+            counts[label[1], int(label[2]), label[3]] = int(total[1]) / 8
     return counts
 
 
@@ -99,18 +121,27 @@ def times_tables(times):
     return text + "\n![Microseconds a call by size, for each family](benchmarks.svg)\n"
 
 
-def ratio_table(times, call, solver="LEMON", families=tuple(FAMILIES)):
-    """Return how many times faster than LEMON a call is, at each size: the median of the runs, and the spread."""
-    ratios = {
-        (name, size): [lemon / ours for lemon, ours in zip(times[name, size, solver], times[name, size, call])]
+def ratios_to(times, call, other, families, sizes):
+    """Return how many times faster than another a call is in each run, by family and size."""
+    return {
+        (name, size): [theirs / ours for theirs, ours in zip(times[name, size, other], times[name, size, call])]
         for name in families
-        for size in SIZES
+        for size in sizes
     }
-    rows = [[name, *(f"{quantity(median(ratios[name, size]))} ({spread(ratios[name, size])})" for size in SIZES)] for name in families]
-    slower = sum(median(values) < 1 for values in ratios.values())
-    at_worst = sum(min(values) < 1 for values in ratios.values())
-    text = table([f"`{call}`", *SIZES], rows)
-    return text + f"\nBelow 1 LEMON is faster: in {slower} of these {len(ratios)} cases. By the lowest ratio of the runs: in {at_worst}.\n"
+
+
+def slower(ratios, of_runs):
+    """Return the cases where a call is the slower one, by the median or the lowest of its ratios."""
+    return {case for case, values in ratios.items() if of_runs(values) < 1}
+
+
+def ratio_table(times, call, other="LEMON", families=tuple(FAMILIES), sizes=tuple(SIZES)):
+    """Return how many times faster than another a call is, at each size: the median of the runs, and the spread."""
+    ratios = ratios_to(times, call, other, families, sizes)
+    rows = [[name, *(f"{quantity(median(ratios[name, size]))} ({spread(ratios[name, size])})" for size in sizes)] for name in families]
+    text = table([f"`{call}`", *sizes], rows)
+    text += f"\nBelow 1 {plain(other)} is faster: in {len(slower(ratios, median))} of these {len(ratios)} cases. "
+    return text + f"By the lowest ratio of the runs: in {len(slower(ratios, min))}.\n"
 
 
 def idle_tables(times, counts):
@@ -121,15 +152,47 @@ def idle_tables(times, counts):
     text += f"\n32 lots, 31 calls and the idle call: microseconds{', and thousands of instructions by callgrind' if counts else ''}.\n\n"
     rows = [[name, *(quantity(median(times[name, 32, call])) for call in IDLE_CALLS)] for name in IDLE_FAMILIES]
     if counts:
-        rows = [row + [quantity(counts[row[0], call] / 1000) for call in IDLE_CALLS] for row in rows]
+        rows = [row + [quantity(counts[row[0], 32, call] / 1000) for call in IDLE_CALLS] for row in rows]
     return text + table(["", *IDLE_CALLS, *(f"{call}, instructions" for call in IDLE_CALLS if counts)], rows)
 
 
-def stack_table(calls, bound):
+def panel_ratios(times):
+    """Return how many times faster the ticket panel's call is than LEMON and than find_and_run, and in how many cases it is slower."""
+    ours, general, lemon = PANEL_CALLS
+    text, usual, worst = "", set(), set()
+    for other in (lemon, general):
+        text += f"\nHow many times faster than {plain(other)}:\n\n" + ratio_table(times, ours, other, FAMILIES, PANEL_SIZES)
+        ratios = ratios_to(times, ours, other, FAMILIES, PANEL_SIZES)
+        usual |= slower(ratios, median)
+        worst |= slower(ratios, min)
+    text += f"\n{plain(ours)} is slower than one of the two, or than both, in {len(usual)} of these {len(ratios)} cases. "
+    return text + f"By the lowest ratio of the runs: in {len(worst)}.\n"
+
+
+def panel_row(times, counts, name, size):
+    """Return the microseconds of the ticket panel's call and of those beside it in one case, and the thousands of instructions."""
+    figures = [median(times[name, size, call]) for call in PANEL_CALLS]
+    figures += [counts[name, size, call] / 1000 for call in PANEL_CALLS if counts]
+    return [name, size, *map(quantity, figures)]
+
+
+def panel_tables(times, counts):
+    """Return the figures of the ticket panel's call: ratios, times and instructions, at each size."""
+    text = PANEL + panel_ratios(times)
+    text += f"\nMicroseconds{', and thousands of instructions by callgrind' if counts else ''}.\n\n"
+    names = [plain(call) for call in PANEL_CALLS]
+    rows = [panel_row(times, counts, name, size) for name in FAMILIES for size in PANEL_SIZES]
+    text += table(["", "size", *names, *(f"{name}, instructions" for name in names if counts)], rows)
+    return text + CLEARING if counts else text
+
+
+def stack_table(calls, bound, panel_bound):
     """Return the stack that each call takes."""
     text = "\n## Stack a call, bytes\n\n"
     text += "On the largest book, with an idle call that of 31 calls, and also on that book less one pair, which is searched in another way.\n"
-    text += f"By `tests/stack.c`, which fails above the bound in `placer.h`, {bound:,}.\n\n"
+    text += "The ticket panel's call on the largest book that it takes, of 8 lots and 8 calls, and on that book less one pair.\n"
+    text += f"By `tests/stack.c`, which fails above the bounds in `placer.h`: `PLACER_STACK`, {bound:,}, and for the ticket panel's call\n"
+    text += f"`PLACER_PANEL_STACK`, {panel_bound:,}.\n\n"
     return text + table(["call", "bytes"], [[name, f"{int(count):,}"] for name, count in calls])
 
 
@@ -149,11 +212,12 @@ def page(times, answers, counts, stack):
     if counts:
         text += "\n## Instructions a call at 32, thousands\n\n"
         text += "By callgrind, over 8 books of each family; these do not depend on the machine's load.\n\n"
-        text += table(["", *CALLS], [[name, *(quantity(counts[name, call] / 1000) for call in CALLS)] for name in FAMILIES])
-    return text + idle_tables(times, counts) + stack_table(*stack)
+        text += table(["", *CALLS], [[name, *(quantity(counts[name, 32, call] / 1000) for call in CALLS)] for name in FAMILIES])
+        text += CLEARING
+    return text + idle_tables(times, counts) + panel_tables(times, counts) + stack_table(*stack)
 
 
-def panel(name, times, low, high):
+def chart(name, times, low, high):
     """Return the SVG of one family: a line for each call over the sizes, microseconds on a logarithmic scale."""
     width, height = 210, 170
     place = {size: width * position / (len(SIZES) - 1) for position, size in enumerate(SIZES)}
@@ -173,7 +237,7 @@ def panel(name, times, low, high):
 
 
 def plot(times):
-    """Return the text of docs/benchmarks.svg: a panel for each family."""
+    """Return the text of docs/benchmarks.svg: a chart for each family."""
     shown = [value for (_, _, call), value in times.items() if call in LINES]
     low, high = math.floor(math.log10(min(shown))), math.ceil(math.log10(max(shown)))
     parts = ['<svg xmlns="http://www.w3.org/2000/svg" viewBox="0 0 840 510" font-family="sans-serif" font-size="11">',
@@ -184,7 +248,7 @@ def plot(times):
         parts.append(f'<path d="M{x} 18h18" stroke="{colour}" stroke-width="3"/><text x="{x + 22}" y="22">{call}</text>')
     for position, name in enumerate(FAMILIES):
         x, y = 55 + 270 * (position % 3), 65 + 230 * (position // 3)
-        parts.append(f'<g transform="translate({x} {y})">{panel(name, times, low, high)}</g>')
+        parts.append(f'<g transform="translate({x} {y})">{chart(name, times, low, high)}</g>')
     return "\n".join(parts) + "\n</svg>\n"
 
 

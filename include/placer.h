@@ -27,16 +27,16 @@
  * are none, else Short without lots, Covered without calls.
  *
  * What holds for every call
- *   - Any bytes and any lengths may be handed over. The call returns; it accepts, or refuses by a number from 1 to 19.
+ *   - Any bytes and any lengths may be handed over. The call returns; it accepts, or refuses by a number from 1 to 20.
  *   - What is passed by `const` pointer is read and never written. A buffer is written only where the call accepts; a refusal leaves it
  *     as it was. Nothing outside the stated lengths is read or written, and no pointer is kept.
  *   - A pointer must not be null, even where its length is 0, as for a flow of 0 entries; any other pointer may then be handed over. A
  *     buffer must not overlap another argument.
  *   - No heap, no state, no input or output, no signal, no locale: calls on separate buffers may run at once in any number of threads.
- *   - Stack: at most PLACER_STACK bytes.
- *   - Several refusals can apply; the one reported is the first in this sequence: the book's (1, 2, 3, 4; then lot by lot 6, 5, 6, 7;
+ *   - Stack: at most PLACER_STACK bytes; placer_find_and_run_panel at most PLACER_PANEL_STACK.
+ *   - Several refusals can apply; the one reported is the first in this sequence: the book's (1, 2, 3, 4, 20; then lot by lot 6, 5, 6, 7;
  *     then 8), the order's (1, 2, 3, 6, 8; at each pair 9, 10; then 14; then 11 or 12), the amounts' (1, 2, 3, 15, 6, 8, 16), 18, 19,
- *     then 17, and 13 last. 18 and 19 come from placer_find_and_run_idle alone.
+ *     then 17, and 13 last. 18 and 19 come from placer_find_and_run_idle alone, 20 from placer_find_and_run_panel alone.
  *
  * Proved: every reply and every buffer, for all inputs, by the contracts of crates/placer_c; that the order found is good, and that one is
  * found whenever a good one exists. Trusted: the Rattle checker and compiler, this header, the C compiler and linker. */
@@ -64,8 +64,11 @@ extern "C" {
 #define PLACER_BOOK_MAX 4231         /* bytes of the largest book, order and amounts file */
 #define PLACER_ORDER_MAX 2055
 #define PLACER_AMOUNTS_MAX 263
-#define PLACER_FLOW_MAX 1024 /* entries: always enough */
-#define PLACER_STACK 24576   /* bytes: no call takes more (measured; the finder takes most) */
+#define PLACER_FLOW_MAX 1024     /* entries: always enough */
+#define PLACER_STACK 24576       /* bytes: no call takes more (measured; the finder takes most) */
+#define PLACER_PANEL_SIDE_MAX 8  /* lots, and calls, of placer_find_and_run_panel */
+#define PLACER_PANEL_FLOW_MAX 64 /* entries: always enough for it */
+#define PLACER_PANEL_STACK 8192  /* bytes: it takes no more (measured; most where the loader binds memcpy in the first call) */
 
 /* The refusals, by their numbers. In brackets the values that stand in `values`, from values[0] on. */
 enum placer_number {
@@ -88,7 +91,8 @@ enum placer_number {
     PLACER_AMOUNT_TOO_HIGH = 16,    /* an amount is above 1,000,000,000 */
     PLACER_BUFFER_TOO_SHORT = 17,   /* the buffer lent is too short */
     PLACER_CALLS_EXCEED_LOTS = 18,  /* with an idle call: the calls' total exceeds the lots' total */
-    PLACER_NO_IDLE_CALL = 19        /* with an idle call: the book already has 32 calls */
+    PLACER_NO_IDLE_CALL = 19,       /* with an idle call: the book already has 32 calls */
+    PLACER_ABOVE_EIGHT = 20         /* ticket panel: the book's n or m is above 8 */
 };
 
 /* The verdict of a run. Whatever the verdict, no allocation places more units. Least cost is promised for Full, and by
@@ -139,6 +143,15 @@ placer_reply placer_find_and_run(const uint8_t *book, size_t book_len, const uin
  *                    book has one */
 placer_reply placer_find_and_run_idle(const uint8_t *book, size_t book_len, const uint8_t *amounts, size_t amounts_len, uint32_t *flow,
                                       size_t flow_len);
+
+/* placer_find_and_run_panel: find and run for a ticket panel, which shows at most 8 lots and 8 calls. Within eight by eight it replies and
+ * writes as placer_find_and_run does, on all inputs. Its work state is for 64 pairs instead of 1,024, so that it takes less stack.
+ *   book, amounts    read
+ *   flow, flow_len   as for placer_find_and_run; PLACER_PANEL_FLOW_MAX entries are always enough
+ *   accepted         as for placer_find_and_run
+ *   refused          as for placer_find_and_run, and 20 directly after 4: with n or m above 8, whatever follows the book's first 7 bytes */
+placer_reply placer_find_and_run_panel(const uint8_t *book, size_t book_len, const uint8_t *amounts, size_t amounts_len, uint32_t *flow,
+                                       size_t flow_len);
 
 /* placer_find_order: find an order, to be agreed, stored and run later.
  *   book               read
@@ -212,7 +225,8 @@ static inline const char *placer_sentence(uint32_t number)
         "an amount is above 1,000,000,000",
         "the buffer is too short",
         "the calls' total exceeds the lots' total",
-        "the book already has 32 calls, and the idle call would be one more"};
+        "the book already has 32 calls, and the idle call would be one more",
+        "the book's count of lots or calls is above 8, the most that a ticket panel shows"};
     return number < sizeof sentences / sizeof sentences[0] ? sentences[number] : "not a number of this library";
 }
 

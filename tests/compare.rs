@@ -6,13 +6,16 @@ mod checking;
 mod costs;
 mod demand3;
 mod direct;
+mod eight_by_eight;
 mod families;
 mod files;
+mod guarded;
 mod idle;
 mod known;
 mod library;
 mod new_desks;
 mod noticing;
+mod panel;
 mod placing;
 mod program;
 mod rebates;
@@ -26,7 +29,7 @@ mod sys;
 mod versions;
 mod wrong;
 
-use library::{Books, Comparison, Tallies, Tally, IDLE};
+use library::{Books, Comparison, Tallies, Tally, IDLE, OF_PANEL, PANEL};
 use noticing::missed;
 use std::collections::hash_map::DefaultHasher;
 use std::hash::Hasher;
@@ -37,7 +40,7 @@ use std::time::Instant;
 use wrong::Wrong;
 
 /// In the place of a number: a run's cost is below zero.
-const BELOW_ZERO: usize = 20;
+const BELOW_ZERO: usize = 21;
 
 /// The cells of the small books of version 1.
 const SMALL: [Option<i64>; 4] = [None, Some(0), Some(1), Some(2)];
@@ -47,7 +50,7 @@ type Work<'a> = Box<dyn Fn(&mut Comparison) + Sync + 'a>;
 /// What a part came to.
 struct Outcome {
     tallies: Tallies,
-    digests: [u64; 3],
+    digests: [u64; 4],
     seconds: f64,
 }
 
@@ -98,14 +101,16 @@ fn digest(digests: impl Iterator<Item = u64>) -> u64 {
     all.finish()
 }
 
-/// Prints digests of what the library replied and wrote: with books that have lots and calls, in the parts from before request 5; and all
-/// else.
-fn print_digests(before: &[Outcome], request_5: &[Outcome]) {
+/// Prints digests of what the library replied and wrote, the ticket panel's calls apart: with books that have lots and calls, in the parts
+/// from before request 5; with other books there, and in the parts of request 5; and the panel's calls, with all calls in its own parts.
+fn print_digests([before, request_5, request_6]: [&[Outcome]; 3]) {
     let with = |books: Books| before.iter().map(move |done| done.digests[books as usize]);
     println!("replies and writes with books of version 2: {:016x}", digest(with(Books::Version2)));
     println!("replies and writes with all other books: {:016x}", digest(with(Books::Other)));
-    let new_desks = with(Books::NewDesk).chain(request_5.iter().flat_map(|done| done.digests));
+    let new_desks = with(Books::NewDesk).chain(request_5.iter().flat_map(|done| done.digests.into_iter().take(OF_PANEL)));
     println!("replies and writes with books without lots or calls, and in the parts of request 5: {:016x}", digest(new_desks));
+    let panel = before.iter().chain(request_5).map(|done| done.digests[OF_PANEL]).chain(request_6.iter().flat_map(|done| done.digests));
+    println!("replies and writes of the ticket panel, and in the parts of request 6: {:016x}", digest(panel));
 }
 
 /// The parts with books of version 1, the two longest first.
@@ -170,8 +175,22 @@ fn parts_of_request_5<'a>() -> Vec<(&'a str, Work<'a>)> {
     ]
 }
 
-/// The parts from before request 5, and those of it. In each the printing program's are the last ones, where it is built.
-fn all_parts(path: &Path) -> [Vec<(&str, Work<'_>)>; 2] {
+/// The parts of request 6, of both versions.
+fn parts_of_request_6<'a>() -> Vec<(&'a str, Work<'a>)> {
+    vec![
+        ("ticket panel, every two counts", Box::new(|c| eight_by_eight::counts(c, &(0..=255).collect::<Vec<_>>()))),
+        ("ticket panel, above eight by eight", Box::new(|c| eight_by_eight::above(c, &(0..=32).collect::<Vec<_>>()))),
+        ("ticket panel, books of each kind", Box::new(|c| eight_by_eight::kinds(c, 6))),
+        ("ticket panel, families", Box::new(|c| eight_by_eight::families(c, 1))),
+        ("ticket panel, families of version 2", Box::new(|c| eight_by_eight::families(c, 2))),
+        ("ticket panel, limits", Box::new(eight_by_eight::limits)),
+        ("ticket panel, damaged files", Box::new(eight_by_eight::damage)),
+        ("ticket panel, known replies", Box::new(eight_by_eight::known)),
+    ]
+}
+
+/// The parts from before request 5, those of it, and those of request 6. The printing program's are the last ones, where it is built.
+fn all_parts(path: &Path) -> [Vec<(&str, Work<'_>)>; 3] {
     let mut before = parts_of_version_1();
     before.extend(parts_of_version_2());
     let mut request_5 = parts_of_request_5();
@@ -182,23 +201,26 @@ fn all_parts(path: &Path) -> [Vec<(&str, Work<'_>)>; 2] {
     } else {
         println!("printing program: SKIPPED, it is not built");
     }
-    [before, request_5]
+    [before, request_5, parts_of_request_6()]
 }
 
 /// Prints how often each number and each verdict came: in all; with books of version 2; with books without lots or calls, which have no
-/// pairs and no costs; and in the run with an idle call, which meets no order's numbers. The count of those that never did.
+/// pairs and no costs; in the run with an idle call and in the ticket panel's, which meet no order's numbers. The count of those that never
+/// did.
 fn unseen(outcomes: &[Outcome]) -> u64 {
     let each = || outcomes.iter().flat_map(|done| &done.tallies);
     let with = |books: Books| sum(each().filter(|(key, _)| key.1 == books).map(|(_, tally)| tally));
-    let tallies: [(&str, Tally, &[usize]); 4] = [
+    let of = |name: &str| sum(each().filter(|(key, _)| key.0 == name).map(|(_, tally)| tally));
+    let tallies: [(&str, Tally, &[usize]); 5] = [
         ("all", sum(each().map(|(_, tally)| tally)), &[]),
         ("books of version 2", with(Books::Version2), &[]),
         ("books without lots or calls", with(Books::NewDesk), &[7, 10, 11, 12, 13, 14, BELOW_ZERO]),
-        (IDLE.name, sum(each().filter(|(key, _)| key.0 == IDLE.name).map(|(_, tally)| tally)), &[9, 10, 11, 12, 14]),
+        (IDLE.name, of(IDLE.name), &[9, 10, 11, 12, 14, 20]),
+        (PANEL.name, of(PANEL.name), &[9, 10, 11, 12, 14, 18, 19]),
     ];
     let print = |(name, tally, never): (&str, Tally, &[usize])| {
         let ([_, full, short, covered], numbers) = (tally.verdicts, tally.numbers);
-        print!("{name}: {} cases, accepted {}; refused by 1 to 19: {:?}; ", tally.cases, numbers[0], &numbers[1..]);
+        print!("{name}: {} cases, accepted {}; refused by 1 to 20: {:?}; ", tally.cases, numbers[0], &numbers[1..]);
         println!("runs full {full}, short {short}, covered {covered}, costs below zero {}", tally.below_zero);
         let expected = numbers.into_iter().chain([tally.below_zero]).enumerate().filter(|(number, _)| !never.contains(number));
         expected.map(|(_, times)| times).chain(tally.verdicts).filter(|&times| times == 0).count() as u64
@@ -209,7 +231,7 @@ fn unseen(outcomes: &[Outcome]) -> u64 {
 fn main() {
     let path = std::env::args().nth(1).unwrap_or_default();
     let parts = all_parts(Path::new(&path));
-    let before = parts[0].len();
+    let (before, request_5) = (parts[0].len(), parts[1].len());
     let (names, works): (Vec<&str>, Vec<Work>) = parts.into_iter().flatten().unzip();
     let outcomes = run_all(&works.into_iter().map(|work| (Wrong::Nothing, work)).collect::<Vec<_>>());
     let (mut cases, mut differences) = (0, 0);
@@ -220,7 +242,8 @@ fn main() {
         differences += tally.differences;
     }
     differences += unseen(&outcomes);
-    print_digests(&outcomes[..before], &outcomes[before..]);
+    let (earlier, request_6) = outcomes.split_at(before + request_5);
+    print_digests([&earlier[..before], &earlier[before..], request_6]);
 
     let (missed, wrong) = missed(Path::new(&path));
     println!("wrong references: {} of {wrong} noticed", wrong - missed.len());

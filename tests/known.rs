@@ -1,8 +1,9 @@
 //! Runs whose replies are known: the reference and the library are held to them.
 use crate::costs::{rows, Costs, NO};
 use crate::direct::run;
+use crate::eight_by_eight::on_panel;
 use crate::files::{amounts_file, book_file, order_file};
-use crate::library::{accepted, refusal, Comparison, IDLE, PLAIN};
+use crate::library::{accepted, refusal, Comparison, Finding, IDLE, PANEL, PLAIN};
 use crate::placing::Verdict;
 use crate::sections::some_order;
 use crate::sys::Reply;
@@ -152,13 +153,15 @@ fn idle_rebates() -> Vec<(Known, Vec<u32>)> {
     ]
 }
 
-/// One reply of the run with an idle call, and the buffer, which held nines.
-fn one_idle(c: &mut Comparison, book: &[u8], amounts: &[u8], entries: usize, reply: Reply, written: &[u32]) {
+/// One reply of a run that finds its order itself, and the buffer, which held nines.
+pub fn one_run(c: &mut Comparison, finding: &Finding, book: &[u8], amounts: &[u8], entries: usize, reply: Reply, written: &[u32]) {
     let (mut flow, mut after) = (vec![9; entries], vec![9; entries]);
     c.find_and_run(book, amounts, &flow);
-    let got = IDLE.run(book, amounts, &mut flow);
+    let got = finding.run(book, amounts, &mut flow);
     after[..written.len()].copy_from_slice(written);
-    c.count(got == reply && flow == after, || format!("idle: {book:?} with {amounts:?}: {got:?} {flow:?}, known {reply:?} {after:?}"));
+    c.count(got == reply && flow == after, || {
+        format!("{}: {book:?} with {amounts:?}: {got:?} {flow:?}, known {reply:?} {after:?}", finding.name)
+    });
 }
 
 /// The two files of a version.
@@ -171,13 +174,13 @@ fn idle_of(c: &mut Comparison, version: u16, runs: Vec<(Known, Vec<u32>)>) {
     for ((costs, amounts, (verdict, units, cost)), flow) in runs {
         let (book, amounts) = files(version, &costs, &amounts);
         for more in [0, 1, 40] {
-            one_idle(c, &book, &amounts, flow.len() + more, accepted(verdict, units, cost), &flow);
+            one_run(c, &IDLE, &book, &amounts, flow.len() + more, accepted(verdict, units, cost), &flow);
         }
-        one_idle(c, &book, &amounts, flow.len() - 1, refusal(17), &[]);
+        one_run(c, &IDLE, &book, &amounts, flow.len() - 1, refusal(17), &[]);
     }
     for (costs, amounts, entries, number) in idle_refused() {
         let (book, amounts) = files(version, &costs, &amounts);
-        one_idle(c, &book, &amounts, entries, refusal(number), &[]);
+        one_run(c, &IDLE, &book, &amounts, entries, refusal(number), &[]);
     }
 }
 
@@ -189,8 +192,11 @@ fn runs_of(c: &mut Comparison, version: u16, runs: Vec<Known>) {
         c.find_and_run(&book, &amounts, &flow);
         c.run_order(&book, &order, &amounts, &flow);
         let reply = accepted(verdict, units, cost);
-        let got = [PLAIN.run(&book, &amounts, &mut [0; 1024]), run(&book, &order, &amounts, &mut [0; 1024])];
-        c.count(got == [reply; 2], || format!("{costs:?} with {amounts:?}: {got:?}, known {reply:?}"));
+        let by_order = run(&book, &order, &amounts, &mut [0; 1024]);
+        let got = [PLAIN.run(&book, &amounts, &mut [0; 1024]), PANEL.run(&book, &amounts, &mut [0; 1024]), by_order];
+        c.count(got == [reply, on_panel(costs.len(), costs.calls, reply), reply], || {
+            format!("{costs:?} with {amounts:?}: {got:?}, known {reply:?}")
+        });
     }
 }
 

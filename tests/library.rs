@@ -1,65 +1,15 @@
-//! The C library called as C calls it, each reply and each buffer held against the reference. Every slice handed over ends where an
-//! inaccessible page begins, and has a strip of known bytes before it.
+//! The C library called as C calls it, each reply and each buffer held against the reference.
+use crate::guarded::{Guarded, Part};
 use crate::placing::{Run, Verdict};
 use crate::reference::Refused;
 use crate::sys::{
-    placer_check_order, placer_find_and_run, placer_find_and_run_idle, placer_find_order, placer_lot_costs, placer_pair_cost,
-    placer_read_amounts, placer_read_book, placer_run_order, Reply,
+    placer_check_order, placer_find_and_run, placer_find_and_run_idle, placer_find_and_run_panel, placer_find_order, placer_lot_costs,
+    placer_pair_cost, placer_read_amounts, placer_read_book, placer_run_order, Reply,
 };
 use crate::wrong::Wrong;
 use std::collections::hash_map::DefaultHasher;
 use std::collections::BTreeMap;
-use std::ffi::c_void;
 use std::hash::{Hash, Hasher};
-
-extern "C" {
-    fn mmap(at: *mut c_void, length: usize, protection: i32, flags: i32, file: i32, offset: i64) -> *mut u8;
-    fn mprotect(at: *mut u8, length: usize, protection: i32) -> i32;
-}
-
-const PAGE: usize = 4096;
-const STRIP: [u8; 32] = [0xa5; 32];
-
-/// Memory that ends at an inaccessible page.
-struct Guarded {
-    end: *mut u8,
-}
-
-impl Guarded {
-    fn new(room: usize) -> Guarded {
-        let size = (room + STRIP.len() + PAGE - 1) / PAGE * PAGE;
-        unsafe {
-            let start = mmap(std::ptr::null_mut(), size + PAGE, 3, 0x22, -1, 0);
-            assert!(start as isize != -1, "no memory");
-            let end = start.add(size);
-            assert!(mprotect(end, PAGE, 0) == 0, "no guard page");
-            Guarded { end }
-        }
-    }
-
-    fn start<T>(&self, items: &[T]) -> *mut T {
-        unsafe { self.end.sub(std::mem::size_of_val(items)) as *mut T }
-    }
-
-    fn put<T: Copy>(&self, items: &[T]) -> (*mut T, usize) {
-        let start = self.start(items);
-        unsafe {
-            std::ptr::copy_nonoverlapping(STRIP.as_ptr(), (start as *mut u8).sub(STRIP.len()), STRIP.len());
-            std::ptr::copy_nonoverlapping(items.as_ptr(), start, items.len());
-        }
-        (start, items.len())
-    }
-
-    fn items<T>(&self, (start, length): Part<T>) -> &[T] {
-        unsafe { std::slice::from_raw_parts(start, length) }
-    }
-
-    fn holds<T: Copy + PartialEq>(&self, items: &[T]) -> bool {
-        let start = self.start(items);
-        let before = unsafe { (start as *mut u8).sub(STRIP.len()) };
-        self.items((before, STRIP.len())) == STRIP && self.items((start, items.len())) == items
-    }
-}
 
 /// What is lent to a call, and what it holds afterwards. What a call does not take is empty.
 #[derive(Clone, Copy, Default, Debug)]
@@ -70,8 +20,6 @@ struct Lent<'a> {
     flow: &'a [u32],
 }
 
-type Part<T> = (*mut T, usize);
-
 /// A run that finds its order itself: its name, the reference's and the library's.
 pub struct Finding {
     pub name: &'static str,
@@ -81,6 +29,7 @@ pub struct Finding {
 
 pub const PLAIN: Finding = Finding { name: "find_and_run", reference: Wrong::find_and_run, export: placer_find_and_run };
 pub const IDLE: Finding = Finding { name: "find_and_run_idle", reference: Wrong::find_and_run_idle, export: placer_find_and_run_idle };
+pub const PANEL: Finding = Finding { name: "find_and_run_panel", reference: Wrong::find_and_run_panel, export: placer_find_and_run_panel };
 
 /// The printing program's name.
 pub const PLACE: &str = "place";
@@ -91,7 +40,7 @@ pub struct Tally {
     pub cases: u64,
     pub differences: u64,
     /// How often each number was expected; 0 is an accepted input.
-    pub numbers: [u64; 20],
+    pub numbers: [u64; 21],
     /// How often each verdict was expected; 0 is no run.
     pub verdicts: [u64; 4],
     /// How often a run's cost was expected to be below zero.
@@ -117,6 +66,9 @@ impl Books {
     }
 }
 
+/// The place of the ticket panel's digest, after those by the book.
+pub const OF_PANEL: usize = 3;
+
 /// Tallies by the name of the entry point, other cases having none, and by the book.
 pub type Tallies = BTreeMap<(&'static str, Books), Tally>;
 
@@ -124,8 +76,8 @@ pub type Tallies = BTreeMap<(&'static str, Books), Tally>;
 pub struct Comparison {
     pub wrong: Wrong,
     pub tallies: Tallies,
-    /// Of every reply, and of the order buffer and the flow after it, by the book.
-    streams: [DefaultHasher; 3],
+    /// Of every reply, and of the order buffer and the flow after it, by the book; the last of the ticket panel's, whatever the book.
+    streams: [DefaultHasher; 4],
     book: Guarded,
     order: Guarded,
     amounts: Guarded,
@@ -157,9 +109,10 @@ impl Comparison {
         Comparison { wrong, tallies: Tallies::new(), streams: Default::default(), book, order, amounts, flow }
     }
 
-    /// Digests of what the library replied and wrote, by the book: two builds that reply and write alike have the same.
-    pub fn digests(&self) -> [u64; 3] {
-        [0, 1, 2].map(|books| self.streams[books].finish())
+    /// Digests of what the library replied and wrote, by the book, and the ticket panel's: two builds that reply and write alike have the
+    /// same.
+    pub fn digests(&self) -> [u64; 4] {
+        [0, 1, 2, 3].map(|stream| self.streams[stream].finish())
     }
 
     fn tally(&mut self, name: &'static str, books: Books, same: bool, what: impl Fn() -> String) -> &mut Tally {
@@ -193,7 +146,7 @@ impl Comparison {
         let parts = (self.book.put(lent.book), self.order.put(lent.order), self.amounts.put(lent.amounts), self.flow.put(lent.flow));
         let got = call(parts.0, parts.1, parts.2, parts.3);
         let books = Books::of(lent.book);
-        let stream = &mut self.streams[books as usize];
+        let stream = &mut self.streams[if name == PANEL.name { OF_PANEL } else { books as usize }];
         (got.number, got.verdict, got.values, self.order.items(parts.1), self.flow.items(parts.3)).hash(stream);
         let same = got == expected
             && self.book.holds(after.book)
@@ -260,7 +213,10 @@ impl Comparison {
     ) {
         let (expected, after) = match run {
             Ok(run) => (Ok((run.verdict as u32, vec![run.units, run.cost as u64])), run.flow),
-            Err(refused) => (Err(refused), lent.flow.to_vec()),
+            Err(refused) => {
+                let after = self.wrong.flow_refused(refused.0, lent.flow);
+                (Err(refused), after)
+            }
         };
         self.compare(name, lent, reply(expected), Lent { flow: &after, ..lent }, call);
     }
@@ -272,14 +228,17 @@ impl Comparison {
         });
     }
 
+    /// One run that finds its order itself.
+    pub fn find_and_run_by(&mut self, finding: Finding, book: &[u8], amounts: &[u8], flow: &[u32]) {
+        let run = (finding.reference)(self.wrong, book, amounts, flow);
+        self.compare_run(finding.name, Lent { book, amounts, flow, ..Lent::default() }, run, |b, _, a, f| unsafe {
+            (finding.export)(b.0, b.1, a.0, a.1, f.0, f.1)
+        });
+    }
+
     /// Each run that finds its order itself.
     pub fn find_and_run(&mut self, book: &[u8], amounts: &[u8], flow: &[u32]) {
-        for Finding { name, reference, export } in [PLAIN, IDLE] {
-            let run = reference(self.wrong, book, amounts, flow);
-            self.compare_run(name, Lent { book, amounts, flow, ..Lent::default() }, run, |b, _, a, f| unsafe {
-                export(b.0, b.1, a.0, a.1, f.0, f.1)
-            });
-        }
+        [PLAIN, IDLE, PANEL].into_iter().for_each(|finding| self.find_and_run_by(finding, book, amounts, flow));
     }
 }
 

@@ -2,8 +2,9 @@
 //! each version, and every one is tried.
 use crate::costs::Costs;
 use crate::direct::{check, found, read, run};
+use crate::eight_by_eight::on_panel;
 use crate::files::{amounts_file, book_file, order_file, relabelled};
-use crate::library::{accepted, refusal, Comparison, IDLE, PLAIN};
+use crate::library::{accepted, refusal, Comparison, IDLE, PANEL, PLAIN};
 use crate::placing::Verdict;
 use crate::samples::{Kind, Random};
 use crate::sections::{all_pairs, amount_limits, damage, every_entry, random_book, read_and_find, small_book};
@@ -35,18 +36,18 @@ fn both_versions(sizes: &[(usize, usize)]) -> Vec<Vec<u8>> {
     files(1).chain(files(2)).collect()
 }
 
-fn each_two<A: Copy, B: Copy>(first: &[A], second: &[B]) -> Vec<(A, B)> {
+pub fn each_two<A: Copy, B: Copy>(first: &[A], second: &[B]) -> Vec<(A, B)> {
     first.iter().flat_map(|&a| second.iter().map(move |&b| (a, b))).collect()
 }
 
 /// Each two, with each version of a book.
-fn in_each_version<A: Copy, B: Copy>(first: &[A], second: &[B]) -> Vec<(u16, A, B)> {
+pub fn in_each_version<A: Copy, B: Copy>(first: &[A], second: &[B]) -> Vec<(u16, A, B)> {
     let both = each_two(first, second);
     [1, 2].into_iter().flat_map(|version| both.iter().map(move |&(a, b)| (version, a, b))).collect()
 }
 
 /// A book with these counts and no rows.
-fn opening(version: u16, lots: u8, calls: u8) -> Vec<u8> {
+pub fn opening(version: u16, lots: u8, calls: u8) -> Vec<u8> {
     relabelled(&[b'C', b'L', b'B', 0, 0, lots, calls], version)
 }
 
@@ -241,7 +242,9 @@ fn known_runs(c: &mut Comparison, book: &[u8], amounts: &[u8], entries: usize, v
     c.run_order(book, NO_PAIRS, amounts, &flow);
     c.find_and_run(book, amounts, &flow);
     let idle = if refused == 0 { reply } else { refusal(refused) };
-    let got = [run(book, NO_PAIRS, amounts, &mut flow), PLAIN.run(book, amounts, &mut flow), IDLE.run(book, amounts, &mut flow)];
-    let same = got == [reply, reply, idle] && flow.iter().all(|&entry| entry == 9);
-    c.count(same, || format!("{book:?} with {amounts:?}: {got:?} {flow:?}, known {verdict:?} {refused}"));
+    let panel = on_panel(book[5] as usize, book[6] as usize, reply);
+    let by_order = run(book, NO_PAIRS, amounts, &mut flow);
+    let got = [PLAIN, IDLE, PANEL].map(|finding| finding.run(book, amounts, &mut flow));
+    let same = by_order == reply && got == [reply, idle, panel] && flow.iter().all(|&entry| entry == 9);
+    c.count(same, || format!("{book:?} with {amounts:?}: {by_order:?} {got:?} {flow:?}, known {verdict:?} {refused}"));
 }

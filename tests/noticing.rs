@@ -1,7 +1,7 @@
 //! The wrong references, and the parts in which each has to be noticed.
 use crate::library::{Comparison, Tallies, PLACE};
-use crate::wrong::{Errors, Wrong, BEFORE_REQUEST_5, REQUEST_5};
-use crate::{known, new_desks, program, run_all, samples, sections, versions, Work, SMALL};
+use crate::wrong::{Errors, Wrong, BEFORE_REQUEST_5, REQUEST_5, REQUEST_6};
+use crate::{eight_by_eight, known, new_desks, program, run_all, samples, sections, versions, Work, SMALL};
 use std::path::Path;
 
 /// Whether a wrong reference was noticed: by each of these entry points, or by any where none is named.
@@ -55,6 +55,18 @@ fn notice_request_5(c: &mut Comparison, names: &[&str], path: &Path) {
     notice(c, names, &parts);
 }
 
+/// The parts in which an error of request 6 is to be noticed.
+fn notice_request_6(c: &mut Comparison, names: &[&str], _: &Path) {
+    let parts: [&dyn Fn(&mut Comparison); 5] = [
+        &eight_by_eight::known,
+        &|c| eight_by_eight::counts(c, &[0, 1, 8, 9, 32, 33]),
+        &|c| eight_by_eight::above(c, &[0, 1, 8, 9]),
+        &|c| eight_by_eight::kinds(c, 1),
+        &|c| sections::random_books(c, 1, 100, (6, 12), 2),
+    ];
+    notice(c, names, &parts);
+}
+
 /// The wrong references that were not noticed, and how many there are; those of the printing program are left out where it is not built.
 pub fn missed(path: &Path) -> (Vec<Wrong>, usize) {
     let each = |errors: Errors, notice: fn(&mut Comparison, &[&str], &Path)| {
@@ -62,6 +74,7 @@ pub fn missed(path: &Path) -> (Vec<Wrong>, usize) {
         built.map(move |&(wrong, names)| (names, (wrong, Box::new(move |c: &mut Comparison| notice(c, names, path)) as Work)))
     };
     let all = each(BEFORE_REQUEST_5, notice_before_request_5).chain(each(REQUEST_5, notice_request_5));
+    let all = all.chain(each(REQUEST_6, notice_request_6));
     let (names, parts): (Vec<_>, Vec<_>) = all.unzip();
     let outcomes = run_all(&parts);
     let missed = (0..parts.len()).filter(|&k| !noticed(&outcomes[k].tallies, names[k]));

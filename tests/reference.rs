@@ -86,8 +86,14 @@ impl Wrong {
         (cost >= least && !self.too_high(cost, most)).then_some(cost)
     }
 
+    /// Version, n and m of a book that opens as it must, without its rows.
+    pub fn head(self, file: &[u8]) -> Result<Book, Refused> {
+        let version = self.opening(file, b"CLB")?;
+        Ok(Book { version, lots: file[5] as usize, calls: file[6] as usize, costs: Vec::new(), words: Vec::new() })
+    }
+
     /// Whether a count is above 32.
-    fn count_outside(self, book: &Book) -> bool {
+    pub fn count_outside(self, book: &Book) -> bool {
         match self {
             Wrong::NoLotsRefused if book.lots == 0 => true,
             Wrong::NoCallsRefused if book.calls == 0 => true,
@@ -99,14 +105,15 @@ impl Wrong {
     }
 
     pub fn read_book(self, file: &[u8]) -> Result<Book, Refused> {
-        let version = self.opening(file, b"CLB")?;
-        let (lots, calls) = (file[5] as usize, file[6] as usize);
-        let mut book = Book { version, lots, calls, costs: Vec::new(), words: Vec::new() };
+        let mut book = self.head(file)?;
         if self.count_outside(&book) {
             return refuse(4, &[]);
         }
+        if self == Wrong::AboveEightEverywhere {
+            self.twenty(file)?;
+        }
         let mut at = 7;
-        for _ in 0..lots.max((self == Wrong::OneRowAtLeast) as usize) {
+        for _ in 0..book.lots.max((self == Wrong::OneRowAtLeast) as usize) {
             let (row, end) = self.row(&book, file, at)?;
             book.words.push(at);
             book.costs.push(row);

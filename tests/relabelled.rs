@@ -4,7 +4,7 @@ use crate::costs::{pairs, Costs};
 use crate::direct::{check, found, lot_costs, pair_cost, read, run};
 use crate::families::each_book;
 use crate::files::{amounts_file, book_file, order_file};
-use crate::library::{Comparison, IDLE, PLAIN};
+use crate::library::{Comparison, IDLE, PANEL, PLAIN};
 use crate::rebates::Shift;
 use crate::reference::Pair;
 use crate::samples::{all, all_books, amounts, costs, permutations, Random, KINDS};
@@ -72,8 +72,9 @@ impl Twins<'_> {
                 self.readings(c, amounts);
             }
             self.run(c, "run", |book, flow| run(book, &order, amounts, flow));
-            self.run(c, PLAIN.name, |book, flow| PLAIN.run(book, amounts, flow));
-            self.run(c, IDLE.name, |book, flow| IDLE.run(book, amounts, flow));
+            for finding in [PLAIN, IDLE, PANEL] {
+                self.run(c, finding.name, |book, flow| finding.run(book, amounts, flow));
+            }
         }
     }
 }

@@ -8,7 +8,7 @@ use crate::sections::{every_entry, largest, some_order};
 const VERSIONS: [u16; 11] = [0, 1, 2, 3, 255, 256, 257, 258, 513, 32_770, 65_535];
 
 /// Costs by their bits. Signed, the last four are -2,147,483,648, -1,000,001, -1,000,000 and -1.
-const BITS: [i64; 11] =
+pub const BITS: [i64; 11] =
     [0, 1, 0x000f_4240, 0x000f_4241, 0x001e_8480, 0x001e_8481, 0x7fff_ffff, 0x8000_0000, 0xfff0_bdbf, 0xfff0_bdc0, 0xffff_ffff];
 
 /// Every version of each file beside every version of the others.

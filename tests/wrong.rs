@@ -14,12 +14,36 @@ macro_rules! wrong {
 pub type Errors = &'static [(Wrong, &'static [&'static str])];
 
 /// Every entry point.
-const EVERY: &[&str] =
-    &["read_book", "lot_costs", "pair_cost", "read_amounts", "check_order", "run_order", "find_order", "find_and_run", "find_and_run_idle"];
+const EVERY: &[&str] = &[
+    "lot_costs",
+    "read_book",
+    "pair_cost",
+    "read_amounts",
+    "check_order",
+    "run_order",
+    "find_order",
+    "find_and_run",
+    "find_and_run_idle",
+    "find_and_run_panel",
+];
 
-/// Every entry point but the costs of a lot, which are an empty stretch for a book without lots or calls, refused or not.
-const REPLYING: &[&str] =
-    &["read_book", "pair_cost", "read_amounts", "check_order", "run_order", "find_order", "find_and_run", "find_and_run_idle"];
+/// Every entry point but the first, the costs of a lot, which are an empty stretch for a book without lots or calls, refused or not.
+const REPLYING: &[&str] = match EVERY {
+    [_, replying @ ..] => replying,
+    [] => EVERY,
+};
+
+/// Every entry point but the last, the ticket panel's.
+const OTHERS: &[&str] = match EVERY {
+    [others @ .., _] => others,
+    [] => EVERY,
+};
+
+/// The runs that find their order themselves.
+const FINDING: &[&str] = &["find_and_run", "find_and_run_idle", "find_and_run_panel"];
+
+/// The entry points that read amounts.
+const AMOUNTS: &[&str] = &["read_amounts", "run_order", "find_and_run", "find_and_run_idle", "find_and_run_panel"];
 
 wrong! {
     BEFORE_REQUEST_5 {
@@ -34,17 +58,25 @@ wrong! {
         PairTurnedRound
         NotEligibleCostsNothing;
 
-        &["check_order", "find_and_run", "find_and_run_idle"] =>
+        &["check_order", "find_and_run", "find_and_run_idle", "find_and_run_panel"] =>
         CrossPairTurnedRound
         CostOfTheOtherLot
         MissingPairPasses;
 
-        &["find_and_run", "find_and_run_idle"] =>
+        FINDING =>
         StrictSum
         OnlyLaterLotsAndCalls
         MissingPairCostsNothing
-        TakenPairNotEligible
         HighestPairFirst
+        CostsOneByOne
+        PositionForCall
+        LimitExcluded
+        MarkBeforeLength
+        VersionByteAlone
+        LengthAfterAmounts;
+
+        &["find_and_run", "find_and_run_idle"] =>
+        TakenPairNotEligible
         CheapestPairFirst
         FullWhenCallsMet
         CoveredWhenNothingIsLeft
@@ -53,13 +85,7 @@ wrong! {
         ShortWhenLotsAreLeft
         CostOfEachPairOnce
         IneligibleEntriesKept
-        NoOrderBeforeShortBuffer
-        CostsOneByOne
-        PositionForCall
-        LimitExcluded
-        MarkBeforeLength
-        VersionByteAlone
-        LengthAfterAmounts;
+        NoOrderBeforeShortBuffer;
 
         &["find_and_run_idle"] =>
         TotalsBeforeAmountLimit
@@ -99,10 +125,10 @@ wrong! {
         &["check_order", "run_order"] =>
         OrderOfVersion2;
 
-        &["read_amounts", "run_order", "find_and_run", "find_and_run_idle"] =>
+        AMOUNTS =>
         AmountsOfVersion2;
 
-        &["check_order", "run_order", "find_order", "find_and_run", "find_and_run_idle"] =>
+        &["check_order", "run_order", "find_order", "find_and_run", "find_and_run_idle", "find_and_run_panel"] =>
         SumsUnsigned;
 
         &["run_order", "find_and_run", "find_and_run_idle"] =>
@@ -138,7 +164,7 @@ wrong! {
         &["pair_cost"] =>
         NewDeskCostsNothing;
 
-        &["read_amounts", "run_order", "find_and_run", "find_and_run_idle"] =>
+        AMOUNTS =>
         NewDeskAmountsRefused
         NewDesksAlike
         NewDeskWithoutAmountLimit
@@ -173,5 +199,38 @@ wrong! {
 
         &["place"] =>
         NewDeskWithALine;
+    }
+    REQUEST_6 {
+        &["find_and_run_panel"] =>
+        AboveEightBeforeMark
+        AboveEightBeforeFour
+        AboveEightAfterRows
+        AboveEightAfterBook
+        AboveEightAfterAmounts
+        AboveEightAfterShortBuffer
+        AboveEightAfterNoOrder
+        AboveEightByLots
+        AboveEightByCalls
+        AboveEightByBoth
+        AboveEightByPairs
+        EightRefused
+        NineAccepted
+        AboveEightWithCounts
+        AboveEightClearsFlow
+        AboveEightWritesEntry
+        SixtyFourEntriesNeeded
+        SixtyFourEntriesCleared
+        PanelEntriesNotCleared
+        PanelFlowByEight
+        PanelPairAtLotTimes32
+        EighthLotDropped
+        EighthCallDropped
+        PanelOfOnePair
+        PanelOfVersion1Alone
+        PanelWithoutLotsRefused
+        PanelWithoutCallsRefused;
+
+        OTHERS =>
+        AboveEightEverywhere;
     }
 }

@@ -61,6 +61,7 @@ _FILES = {
     "find_order": 2,
     "find_and_run": 3,
     "find_and_run_idle": 3,
+    "find_and_run_panel": 3,
 }
 
 

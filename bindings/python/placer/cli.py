@@ -12,7 +12,16 @@ from pathlib import Path
 from typing import Iterator, List, Optional, Sequence, TextIO
 
 from . import __version__
-from .entry_points import check_order, find_and_run, find_and_run_idle, find_order, read_amounts, read_book, run_order
+from .entry_points import (
+    check_order,
+    find_and_run,
+    find_and_run_idle,
+    find_and_run_panel,
+    find_order,
+    read_amounts,
+    read_book,
+    run_order,
+)
 from .files import words
 from .lists import amounts_lists, book_costs, numbers, order_pairs
 from .placing import Placing
@@ -115,6 +124,19 @@ def _with_idle(files: Sequence[str], problem: Problem) -> Placing:
         raise BadInput(path, None, f"{cause}; {instead}") from None
 
 
+def _for_panel(files: Sequence[str], problem: Problem) -> Placing:
+    """Place for a ticket panel. 20 is told of the book or, of the tables of lots and of calls, of the longer one."""
+    try:
+        return find_and_run_panel(problem.book, problem.amounts)
+    except Refused as refused:
+        path, instead = files[0], SOLVER
+        if refused.cause is Cause.ABOVE_EIGHT:
+            instead = "place without --panel"
+            if len(files) == 3:
+                path = files[1] if len(problem.lots) > len(problem.calls) else files[2]
+        raise BadInput(path, None, f"{refused}; {instead}") from None
+
+
 def _place(options: argparse.Namespace) -> int:
     problem = load(options.files)
     if options.order:
@@ -123,6 +145,8 @@ def _place(options: argparse.Namespace) -> int:
         placing = run_order(problem.book, order, problem.amounts)
     elif options.idle:
         placing = _with_idle(options.files, problem)
+    elif options.panel:
+        placing = _for_panel(options.files, problem)
     else:
         placing = told(options.files[0], find_and_run, problem.book, problem.amounts)
     if options.flow:
@@ -226,6 +250,7 @@ def _parser() -> argparse.ArgumentParser:
     how = place.add_mutually_exclusive_group()
     how.add_argument("--order", metavar="FILE", help="place by this order file instead of finding one")
     how.add_argument("--idle", action="store_true", help="with stock to spare, make the cheapest choice of what stays in the lots")
+    how.add_argument("--panel", action="store_true", help="keep to a ticket panel's limit: refuse more than 8 lots or 8 calls")
     place.add_argument("--flow", metavar="FILE", help="write the flow too: the units of all pairs, 32-bit numbers, lot by lot")
     encode = command("encode", _encode, "write book.clb and amounts.cla")
     encode.add_argument("--order", action="store_true", help="find an order and write order.clo too")

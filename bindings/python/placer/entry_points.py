@@ -13,6 +13,8 @@ from .placing import Placing, Verdict
 
 ORDER_MAX = 2055  # bytes of the longest order that the finder writes
 FLOW_MAX = 1024  # entries of the largest flow
+PANEL_SIDE_MAX = 8  # lots, and calls, that a ticket panel shows
+PANEL_FLOW_MAX = 64  # entries of the largest flow of a ticket panel
 
 
 class Counts(NamedTuple):
@@ -232,7 +234,29 @@ def find_and_run_idle(book: BytesLike, amounts: BytesLike, flow: Optional[Writab
     return _placing("find_and_run_idle", flow, book, amounts)
 
 
-def place(costs: Costs, lots: Sequence[int], calls: Sequence[int], *, idle: bool = False) -> Placing:
+def find_and_run_panel(book: BytesLike, amounts: BytesLike, flow: Optional[Writable] = None) -> Placing:
+    """Find an order and place the amounts by it for a ticket panel, which shows at most 8 lots and 8 calls.
+
+    Within eight by eight it replies and writes as `find_and_run` does, on all inputs; its work state is for 64 pairs instead of 1,024.
+
+    Returns:
+        The placing, as `find_and_run` returns it; `flow` as there, 64 entries being always enough.
+
+    Raises:
+        Refused: as by `find_and_run`, and 20, directly after 4, if the book's count of lots or calls is above 8.
+
+    Examples:
+        >>> find_and_run_panel(book_bytes([[1, 2], [3, 5]]), amounts_bytes([5, 4], [3, 6]))
+        Placing(verdict=Verdict.FULL, units=9, cost=24, flow=((0, 5), (3, 1)))
+        >>> find_and_run_panel(book_bytes([[1]] * 9), amounts_bytes([1] * 9, [9]))
+        Traceback (most recent call last):
+        ...
+        placer.refused.Refused: refused 20: the book's count of lots or calls is above 8, the most that a ticket panel shows
+    """
+    return _placing("find_and_run_panel", flow, book, amounts)
+
+
+def place(costs: Costs, lots: Sequence[int], calls: Sequence[int], *, idle: bool = False, panel: bool = False) -> Placing:
     """Place lots to calls.
 
     Args:
@@ -241,14 +265,15 @@ def place(costs: Costs, lots: Sequence[int], calls: Sequence[int], *, idle: bool
         lots: what each lot has, in whole units; empty if there are none yet.
         calls: what each call asks for; likewise.
         idle: whether to make, with stock to spare, the cheapest choice of what stays in the box, as `find_and_run_idle` does.
+        panel: whether to keep to a ticket panel's limit, at most 8 lots and 8 calls, as `find_and_run_panel` does; not with `idle`.
 
     Returns:
         The placing.
 
     Raises:
         Refused: a limit of document 01 is passed, the counts differ (15), or no order exists (13): use a flow solver then. With `idle`
-            also 18 and 19, and 13 where the book alone may have an order.
-        ValueError: the rows of costs differ in length, or a number does not fit its field.
+            also 18 and 19, and 13 where the book alone may have an order. With `panel` also 20.
+        ValueError: the rows of costs differ in length, a number does not fit its field, or both `idle` and `panel` are asked for.
         TypeError: a cost or an amount is no whole number.
 
     Examples:
@@ -267,6 +292,8 @@ def place(costs: Costs, lots: Sequence[int], calls: Sequence[int], *, idle: bool
         >>> place([[], []], [5, 4], [])
         Placing(verdict=Verdict.COVERED, units=0, cost=0, flow=((), ()))
     """
-    run = find_and_run_idle if idle else find_and_run
+    if idle and panel:
+        raise ValueError("a ticket panel's run has no idle call: choose `idle` or `panel`")
+    run = find_and_run_idle if idle else find_and_run_panel if panel else find_and_run
     book = book_bytes(costs, None if len(costs) else len(calls))  # without rows the amounts tell how many calls there are
     return run(book, amounts_bytes(lots, calls))

@@ -28,6 +28,7 @@ class Cause(enum.IntEnum):
     BUFFER_TOO_SHORT = 17
     CALLS_EXCEED_LOTS = 18
     NO_IDLE_CALL = 19
+    ABOVE_EIGHT = 20
 
 
 # A sentence has one gap for each value that the table returns.
@@ -51,6 +52,7 @@ _SENTENCES = {
     Cause.BUFFER_TOO_SHORT: "the lent buffer is too short",
     Cause.CALLS_EXCEED_LOTS: "the calls ask for more units than the lots have, so that none can stay idle",
     Cause.NO_IDLE_CALL: "the book already has 32 calls, and the idle call would be one more",
+    Cause.ABOVE_EIGHT: "the book's count of lots or calls is above 8, the most that a ticket panel shows",
 }
 
 
@@ -58,7 +60,7 @@ class Refused(ValueError):
     """An input was refused; every lent buffer is as it was.
 
     Attributes:
-        number: 1 to 19, as in document 01.
+        number: 1 to 20, as in document 01.
         cause: the same as a `Cause`.
         values: the table's values in its order, as (lot,), (lot, call), (place,) or (i, j, k, l); often none.
 

@@ -114,6 +114,23 @@ class Command(Case):
         self.assertEqual(self.run_it("place", "--idle", *TABLES)[::2], (1, "short: 3 units, cost 3\n"))
         self.assertIn("not allowed with argument --idle", self.run_it("place", "--idle", "--order", "order.clo", *TABLES)[2])
 
+    def test_panel(self):
+        """With --panel the same is placed, and more than 8 lots or calls are told of the file that has them."""
+        self.assertEqual(self.run_it("place", "--panel", *TABLES), self.run_it("place", *TABLES))
+        for other in (["--idle"], ["--order", "order.clo"]):
+            self.assertIn("not allowed with argument", self.run_it("place", "--panel", *other, *TABLES)[2])
+        zeros = "".join(f"{number},0\n" for number in range(7))
+        for lots, calls, name in [(LOTS + zeros, CALLS, "lots.csv"), (LOTS, CALLS + zeros, "calls.csv"), (LOTS + zeros, CALLS, "book.clb")]:
+            self.write({"lots.csv": lots, "calls.csv": calls})
+            self.run_it("encode", *TABLES)
+            files = ["book.clb", "amounts.cla"] if name == "book.clb" else TABLES
+            above = f"placer: {name}: refused 20: the book's count of lots or calls is above 8, the most that a ticket panel shows"
+            self.assertEqual(self.run_it("place", "--panel", *files), (2, "", f"{above}; place without --panel\n"))
+            self.assertEqual(self.run_it("place", *files)[::2], (0, "full: 9 units, cost 24\n"))
+        self.write({"none.clb": placer.book_bytes(NO_ORDER), "zeros.cla": placer.amounts_bytes([0] * 3, [0] * 3)})
+        none = ["none.clb", "zeros.cla"]
+        self.assertEqual(self.run_it("place", "--panel", *none), self.run_it("place", *none))
+
     def test_rebates(self):
         """Costs below 0 make a book of version 2, and the cost is told with its minus; -0 is 0."""
         names = [line.rpartition(",")[0] for line in PAIRS.splitlines()[1:]]

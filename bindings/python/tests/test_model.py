@@ -45,6 +45,7 @@ class Model(unittest.TestCase):
             book, file = book_bytes(costs, len(amounts[1])), amounts_bytes(*amounts)
             order = model.find(costs)
             placing = self.reply(placer.find_and_run, book, file)
+            self.assertEqual(placing, self.reply(placer.find_and_run_panel, book, file))
             if order is None:
                 self.assertEqual(placing, (13, ()))
             else:

@@ -66,8 +66,12 @@ class NewDesk(Case):
                 self.assertEqual(placer.run_order(book, NO_PAIRS, amounts, flow), expected)
                 if expected.met and calls < 32:
                     self.assertEqual(placer.find_and_run_idle(book, amounts, flow), expected)
+                if max(lots, calls) <= 8:
+                    self.assertEqual(placer.find_and_run_panel(book, amounts, flow), expected)
             if not expected.met or calls == 32:
                 self.refused(19 if expected.met else 18, (), placer.find_and_run_idle, book, amounts, kept)
+            if max(lots, calls) > 8:
+                self.refused(20, (), placer.find_and_run_panel, book, amounts, kept)
             self.assertEqual(kept.tolist(), [7])
 
     def test_place(self):

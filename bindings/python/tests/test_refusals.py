@@ -85,6 +85,7 @@ class Refusals(Case):
             self.refused(number, values, placer.run_order, book, b"", b"", flow)
             self.refused(number, values, placer.find_and_run, book, b"", flow)
             self.refused(number, values, placer.find_and_run_idle, book, b"", flow)
+            self.refused(number, values, placer.find_and_run_panel, book, b"", flow)
             self.assertEqual(len(placer.lot_costs(book, 0)), 0)
             self.refused(number, values, lambda file: placer.pair_cost(file, 0, 0), book)
             self.refused(number, values, lambda file: placer.pair_cost(file, 32, 2**64 - 1), book)
@@ -105,6 +106,7 @@ class Refusals(Case):
             self.refused(number, values, placer.run_order, BOOK, ORDER, file, array("I"))
             self.refused(number, values, placer.find_and_run, BOOK, file, array("I", [7]))
             self.refused(number, values, placer.find_and_run_idle, BOOK, file, array("I", [7]))
+            self.refused(number, values, placer.find_and_run_panel, BOOK, file, array("I", [7]))
 
     def test_buffers(self):
         """Short buffers are 17, before 13; longer ones keep what lies after."""
@@ -155,8 +157,8 @@ class Refusals(Case):
             self.assertIsInstance(error, ValueError)
             self.assertIs(error.cause, cause)
             self.assertRegex(str(error), rf"^refused {cause.value}: \w")
-        self.assertEqual([len(Refused(cause, (0,) * 4).values) for cause in Cause], [0, 0, 0, 0, 1, 0, 2, 0, 1, 1, 4, 4] + [0] * 7)
-        self.assertRaises(ValueError, Refused, 20)
+        self.assertEqual([len(Refused(cause, (0,) * 4).values) for cause in Cause], [0, 0, 0, 0, 1, 0, 2, 0, 1, 1, 4, 4] + [0] * 8)
+        self.assertRaises(ValueError, Refused, 21)
 
 
 if __name__ == "__main__":

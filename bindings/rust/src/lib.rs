@@ -10,7 +10,7 @@
 //!
 //! Every function takes any bytes: it accepts, or refuses by the first [`Refusal`] in the published sequence. A buffer is written only
 //! where the call accepts. Nothing is allocated or kept, nothing panics, and calls may run in any number of threads. A call takes at most
-//! 24 KiB of stack. For x86-64 Linux.
+//! 24 KiB of stack, [`find_and_run_panel`] at most 8 KiB. For x86-64 Linux.
 //!
 //! Proved: every reply and every buffer, for all inputs; that the order found is good, and that one is found whenever a good one exists.
 //! Trusted: the Rattle checker and compiler, this crate's declarations, rustc and the linker.
@@ -55,6 +55,10 @@ pub const ORDER_MAX: usize = 2055;
 pub const AMOUNTS_MAX: usize = 263;
 /// The entries of the largest flow: a buffer of this many is long enough for every book.
 pub const FLOW_MAX: usize = 1024;
+/// The most lots, and the most calls, that [`find_and_run_panel`] takes.
+pub const PANEL_SIDE_MAX: usize = 8;
+/// The entries of its largest flow.
+pub const PANEL_FLOW_MAX: usize = 64;
 
 /// The counts of a book.
 #[derive(Clone, Copy, Debug, PartialEq, Eq, Hash)]
@@ -286,4 +290,30 @@ pub fn find_and_run(book: &[u8], amounts: &[u8], flow: &mut [u32]) -> Result<Pla
 pub fn find_and_run_idle(book: &[u8], amounts: &[u8], flow: &mut [u32]) -> Result<Placed, Refusal> {
     let (b, a) = (book.as_ptr(), amounts.as_ptr());
     placed(unsafe { sys::placer_find_and_run_idle(b, book.len(), a, amounts.len(), flow.as_mut_ptr(), flow.len()) })
+}
+
+/// Finds an order and runs it for a ticket panel, which shows at most 8 lots and 8 calls. Within eight by eight it replies and writes as
+/// [`find_and_run`] does, on all inputs. Its work state is for 64 pairs instead of 1,024, so that it takes less stack. [`PANEL_FLOW_MAX`]
+/// entries are always enough.
+///
+/// # Errors
+/// The refusals of [`find_and_run`], and 20 directly after 4; the flow is then unchanged.
+///
+/// ```
+/// use placer::{find_and_run, find_and_run_panel, Refusal, PANEL_FLOW_MAX};
+///
+/// // Example F1.
+/// let book = b"CLB\x01\0\x02\x02\x03\0\0\0\x01\0\0\0\x02\0\0\0\x03\0\0\0\x03\0\0\0\x05\0\0\0";
+/// let amounts = b"CLA\x01\0\x02\x02\x05\0\0\0\x04\0\0\0\x03\0\0\0\x06\0\0\0";
+/// let mut flow = [0; PANEL_FLOW_MAX];
+/// assert_eq!(find_and_run_panel(book, amounts, &mut flow)?, find_and_run(book, amounts, &mut [0; 4])?);
+/// assert_eq!(flow[..4], [0, 5, 3, 1]);
+///
+/// // Nine lots are too many, which is told before their rows are looked at.
+/// assert_eq!(find_and_run_panel(b"CLB\x01\0\x09\x01", b"", &mut flow), Err(Refusal::AboveEight));
+/// # Ok::<(), placer::Refusal>(())
+/// ```
+pub fn find_and_run_panel(book: &[u8], amounts: &[u8], flow: &mut [u32]) -> Result<Placed, Refusal> {
+    let (b, a) = (book.as_ptr(), amounts.as_ptr());
+    placed(unsafe { sys::placer_find_and_run_panel(b, book.len(), a, amounts.len(), flow.as_mut_ptr(), flow.len()) })
 }

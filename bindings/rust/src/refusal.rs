@@ -45,6 +45,8 @@ pub enum Refusal {
     CallsExceedLots,
     /// 19: with an idle call, the book already has 32 calls.
     NoIdleCall,
+    /// 20: for a ticket panel, the book's count of lots or calls is above 8.
+    AboveEight,
 }
 
 impl Refusal {
@@ -69,7 +71,8 @@ impl Refusal {
             16 => Refusal::AmountTooHigh,
             17 => Refusal::BufferTooShort,
             18 => Refusal::CallsExceedLots,
-            _ => Refusal::NoIdleCall, // 19 is the only number left
+            19 => Refusal::NoIdleCall,
+            _ => Refusal::AboveEight, // 20 is the only number left
         }
     }
 
@@ -95,6 +98,7 @@ impl Refusal {
             Refusal::BufferTooShort => 17,
             Refusal::CallsExceedLots => 18,
             Refusal::NoIdleCall => 19,
+            Refusal::AboveEight => 20,
         }
     }
 }
@@ -127,6 +131,7 @@ impl fmt::Display for Refusal {
             Refusal::BufferTooShort => write!(f, "the buffer is too short"),
             Refusal::CallsExceedLots => write!(f, "the calls' total exceeds the lots' total"),
             Refusal::NoIdleCall => write!(f, "the book already has 32 calls, and the idle call would be one more"),
+            Refusal::AboveEight => write!(f, "the book's count of lots or calls is above 8, the most that a ticket panel shows"),
         }
     }
 }

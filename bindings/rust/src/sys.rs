@@ -47,4 +47,12 @@ extern "C" {
         flow: *mut u32,
         flow_len: usize,
     ) -> Reply;
+    pub fn placer_find_and_run_panel(
+        book: *const u8,
+        book_len: usize,
+        amounts: *const u8,
+        amounts_len: usize,
+        flow: *mut u32,
+        flow_len: usize,
+    ) -> Reply;
 }

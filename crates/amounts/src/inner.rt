@@ -5,7 +5,7 @@ use specification::Counts;
 use specification::Refusal;
 ghost use mathlib.Core.Path.{_≡_};
 ghost use Prim.Native.Nat.{ℕ, _+_, _<_, _≤_};
-ghost use lib.ListN.{getD};
+ghost use lib.ListN.{length, getD};
 ghost use Rattle.specification.specs.Reply.{statedCounts};
 ghost use Rattle.specification.specs.Amounts.{amountAt, readAmountsOf};
 
@@ -51,15 +51,13 @@ pub fn read_of(lots: usize, calls: usize, amounts: &[u8]) -> Counts
 }
 
 // Amounts `first` to `first + count - 1` of the file, from entry 0 of the array on.
-pub fn amounts_from(amounts: &[u8], first: usize, count: usize) -> [u64; 32]
-    requires { ⌜ (first ≤ 32) × (count ≤ 32) ⌝ }
-    ensures { λ r. ⌜ ((k : ℕ) → k < count → getD r k 0 ≡ amountAt (now (amounts .entry)) (first + k)) ⌝ }
+pub fn amounts_into(amounts: &[u8], first: usize, count: usize, out: &mut [u64])
+    requires { ⌜ (first ≤ 32) × (count ≤ 32) × (count ≤ length (now out)) ⌝ }
+    ensures { λ _. ⌜ ((k : ℕ) → k < count → getD (now (out .exit)) k 0 ≡ amountAt (now (amounts .entry)) (first + k)) ⌝ }
 {
-    let mut out = [0u64; 32];
     let mut k: usize = 0;
     while k < count {
         out[k] = amount_at(amounts, first + k) as u64;
         k += 1;
     }
-    out
 }

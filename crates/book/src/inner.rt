@@ -36,8 +36,11 @@ pub fn row_at(book: &[u8], lot: Lot) -> usize
     ensures { λ r. ⌜ r ≡ rowStart (now (book .entry)) (lot .0) ⌝ }
 {
     let i = lot.0;
-    let starts = row_starts(book, i + 1);
-    starts[i]
+    let mut at = 7;
+    for k in 0..i {
+        at += super::row::size(&book[at..]);
+    }
+    at
 }
 
 // How many pairs of a readable book are eligible: past the opening it has four bytes for each lot's word and four for each cost.

@@ -12,7 +12,7 @@ use specification::Refusal;
 ghost use mathlib.Core.Path.{_≡_};
 ghost use Prim.Native.Nat.{_≤_};
 ghost use Rattle.specification.specs.Reply.{statedCounts};
-ghost use Rattle.specification.specs.Book.{readRows, countOutside, readBook, lotCosts, pairCost};
+ghost use Rattle.specification.specs.Book.{readRows, countOutside, readHead, readBook, lotCosts, pairCost};
 ghost use Rattle.files.specs.Files.{statedStep};
 ghost use Rattle.book.specs.Pairs.{statedCost};
 
@@ -52,9 +52,9 @@ fn is_outside(count: usize) -> bool
     32 < count
 }
 
-// n and m of a readable book, or its refusal.
-pub fn read_book(book: &[u8]) -> Counts
-    ensures { λ r. ⌜ statedCounts r ≡ readBook (now (book .entry)) ⌝ }
+// n and m by the first seven bytes of a book, or the refusal of these: 1 to 4.
+pub fn read_head(book: &[u8]) -> Counts
+    ensures { λ r. ⌜ statedCounts r ≡ readHead (now (book .entry)) ⌝ }
 {
     let opening = files::read_opening(book, &files::BOOK_MARK, 2);
     if let Step::Refused(r) = opening {
@@ -68,6 +68,17 @@ pub fn read_book(book: &[u8]) -> Counts
     if is_outside(calls) {
         return Counts::Refused(Refusal::CountOutside);
     }
+    Counts::Are(lots, calls)
+}
+
+// n and m of a readable book, or its refusal.
+pub fn read_book(book: &[u8]) -> Counts
+    ensures { λ r. ⌜ statedCounts r ≡ readBook (now (book .entry)) ⌝ }
+{
+    let head = read_head(book);
+    let Counts::Are(lots, calls) = head else {
+        return head;
+    };
     let rows = read_rows(&book[7..], inner::version_of(book), lots, calls);
     match rows {
         Step::Passes => Counts::Are(lots, calls),

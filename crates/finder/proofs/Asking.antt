@@ -16,7 +16,8 @@ use Rattle.specification.specs.Book.{bit}
 use Rattle.book.specs.Table.{entry}
 use Rattle.slacks.specs.Slacks.{remains, Slacks}
 use Rattle.words.specs.Words.{Without, IncludingIf}
-use Rattle.finder.specs.Words.{Begins, Included, TakenFrom, isLeft, Eligible, Words}
+use Rattle.words.specs.Lefts.{isLeft, TakenFrom}
+use Rattle.finder.specs.Words.{Begins, Included, Eligible, Words}
 use Rattle.finder.specs.Waiting.{takenMark, Taken}
 use Rattle.words.proofs.Sets.{bit-none}
 

@@ -1,47 +1,36 @@
 -- Laws of filling the table of slacks from a book's rows. The costs of a lot stand behind its word, one for each set bit, so the byte of a
 -- cost grows by four with each slack that is entered; clear bits are passed over, since the table is 0 there (`Reached`). With all lots
 -- entered the table states the book's problem (`filled-same`, `filled-slacks`), and with an idle call the enlarged one (`filled-idle`).
-use mathlib.Core.Path.{_≡_, refl, sym, _∙_, ap, subst⁻¹}
+use mathlib.Core.Path.{_≡_, sym, _∙_, ap, subst⁻¹}
 use mathlib.Core.Logic.{by-cases}
-use mathlib.Core.Bool.{Bool, true, false, not, _&&_}
+use mathlib.Core.Bool.{true, false}
 use mathlib.Core.List.{List}
 use Prim.Native.Nat.{ℕ, suc, _+_, _*_, _-_, _^_, _≤_, _<_}
 use native.Mathlib.Nat.{mod-eq-of-lt, lt-of-lt-of-le, add-zero}
 use native.Mathlib.Decide.{ℕ-discrete, decLt}
 use native.Mathlib.Omega.{arith}
-use borrow.Author.Tests.{lt-ltb, ne-eqb}
 use lib.Count.{ones, ones-ones}
-use lib.Dec.{eqb, ltb}
 use lib.Pow.{pow-mono, pow-pos}
 use lib.ListN.{length, set, replicate, length-set, getD-replicate, length-replicate}
 use lib.Seq.{getD-set-same, getD-set-other}
-use Rattle.transport.specs.Problem.{Eligible}
 use Rattle.transport.specs.Idle.{withIdle}
-use Rattle.transport.proofs.Laws.Tests.{T-true, and-says, counted-of, counted-le}
 use Rattle.transport.proofs.Finder.Same.{Same}
-use Rattle.transport.proofs.Finder.Idle.{idle-same}
 use Rattle.specification.specs.Bytes.{u32At}
-use Rattle.specification.specs.Costs.{costLimit, costTop, costBase, liftedCost}
+use Rattle.specification.specs.Costs.{costLimit, costTop}
 use Rattle.specification.specs.Book.{bit, rowWord, rowSize, rowCost, bookVersion, bookLots, bookCalls, rowAt, rowStart, problemOf}
 use Rattle.specification.specs.Idle.{enlarged}
-use Rattle.specification.proofs.Costs.{base-within, raised-is, raised-within}
 use Rattle.specification.proofs.Numbers.{u32-drop}
 use Rattle.specification.proofs.Rows.{RowRead}
 use Rattle.specification.proofs.Books.{BookRead, book-length}
 use Rattle.specification.proofs.Starts.{row-is, row-inside, start-next}
 use Rattle.book.specs.Pairs.{onesBelow}
 use Rattle.book.specs.Table.{entry, raisedAt, SetFrom}
-use Rattle.book.proofs.Bits.{ones-below-none, ones-below-set, ones-below-clear, ones-below-all, bit-below, bit-past, bit-first, bit-after}
+use Rattle.book.proofs.Bits.{ones-below-none, ones-below-set, ones-below-clear, ones-below-all, bit-past, bit-first, bit-after}
 use Rattle.book.proofs.Readable.{Read, readable-is}
-use Rattle.slacks.specs.Slacks.{remains, bySlacks, Slacks}
-use Rattle.finder.specs.Filling.{slackIn, Entered, AtLot}
+use Rattle.slacks.specs.Slacks.{slackIn, bySlacks, Slacks}
+use Rattle.finder.specs.Filling.{Entered, AtLot}
 use Rattle.slacks.proofs.BySlacks.{capped-zeros, capped-set}
-
--- the cost of a set bit is in its version's range, so with the limit added it is at most the top
-raised-low : {row : List ℕ} {version calls : ℕ} → RowRead row version calls → (j : ℕ) → bit (rowWord row) j ≡ true
-    → liftedCost costLimit (rowCost row j) ≤ costTop
-raised-low {row} {version} {calls} r j e =
-    raised-within version (rowCost row j) (r .costs-within j (bit-below (rowWord row) j calls e (r .word-below)) (rw e tt))
+use Rattle.slacks.proofs.Filled.{raised-low, slack-le, stated-same, stated-idle}
 
 -- ---- the table, entry by entry
 module _ (book : List ℕ) where
@@ -49,7 +38,7 @@ module _ (book : List ℕ) where
   entered-none slacks e = subst⁻¹ (Entered book 0) e record {
     passed = λ i j hj h. absurd (omega arith);
     ahead = λ i j hi hj h. getD-replicate {A = ℕ} 1024 (32 * j + i) 0 0 (omega arith);
-    capped = capped-zeros;
+    capped = capped-zeros 1024;
     long = length-replicate {A = ℕ} 1024 0;
   }
 
@@ -64,12 +53,9 @@ module _ (book : List ℕ) where
         (λ d. getD-set-other slacks (32 * j + i) (32 * l + k) v 0 (λ q. d (omega arith)) ∙ E .passed k l hl (omega arith));
     ahead = λ k l hk hl h.
         getD-set-other slacks (32 * j + i) (32 * l + k) v 0 (λ q. omega arith) ∙ E .ahead k l hk hl (omega arith);
-    capped = capped-set slacks (32 * j + i) v (E .capped) (omega (arith, e, slack-le)) (omega (arith, E .long));
+    capped = capped-set slacks (32 * j + i) v (E .capped) (omega (arith, e, slack-le book i j)) (omega (arith, E .long));
     long = length-set slacks (32 * j + i) v ∙ E .long;
   }
-    where
-      slack-le : slackIn book i j ≤ suc costTop
-      slack-le = omega (arith, counted-le (bit (rowWord (rowAt book i)) j) (suc costTop - liftedCost costLimit (rowCost (rowAt book i) j)))
 
   -- pairs of one lot without slack are passed over
   entered-past : (i j l : ℕ) (slacks : List ℕ) → Entered book (32 * i + j) slacks → i < 32 → j ≤ l → l ≤ 32
@@ -183,72 +169,28 @@ module _ {book : List ℕ} {i at : ℕ} {before : List ℕ} (lot : AtLot book i 
 
 -- ---- all lots
 module _ {book : List ℕ} {n m : ℕ} (r : Read book n m) (slacks : List ℕ) (all : Entered book (32 * n) slacks) where
-  few-lots : n ≤ 32
-  few-lots = omega (arith, r .lots-is, r .known .lots-within)
-
   few-calls : m ≤ 32
   few-calls = omega (arith, r .calls-is, r .known .calls-within)
 
   slack-at : (i j : ℕ) → i < n → j < 32 → entry slacks j i ≡ slackIn book i j
   slack-at i j hi hj = all .passed i j hj (omega arith)
 
-  row-known : (i : ℕ) → i < n → RowRead (rowAt book i) (bookVersion book) (bookCalls book)
-  row-known i hi = r .known .row i (omega (arith, r .lots-is))
-
-  -- a pair has slack exactly where its bit is set
-  set-remains : (i j : ℕ) → i < n → j < 32 → bit (rowWord (rowAt book i)) j ≡ remains slacks i j
-  set-remains i j hi hj = rw (slack-at i j hi hj) (go (bit (rowWord (rowAt book i)) j) refl)
-    where
-      go : (b : Bool) → bit (rowWord (rowAt book i)) j ≡ b → bit (rowWord (rowAt book i)) j ≡ not (eqb (slackIn book i j) 0)
-      go false e = rw e
-      go true e =
-          let low = raised-low (row-known i hi) j e in
-          rw e (rw (ne-eqb (suc costTop - liftedCost costLimit (rowCost (rowAt book i) j)) 0 (λ q. omega arith)))
+  slack-here : (i j : ℕ) → i < n → j < m → entry slacks j i ≡ slackIn book i j
+  slack-here i j hi hj = slack-at i j hi (omega (arith, few-calls))
 
   pub filled-same : Same (problemOf book) (bySlacks slacks n m)
-  unfolding problemOf
-  filled-same = record {
-    lots = sym (r .lots-is);
-    calls = sym (r .calls-is);
-    admits = admits;
-    more = costLimit - costBase (bookVersion book);
-    more′ = 0;
-    cost = cost;
-  }
-    where
-      admits : (i j : ℕ) → i < bookLots book → j < bookCalls book → problemOf book .admits i j ≡ bySlacks slacks n m .admits i j
-      admits i j hi hj =
-          let ni : i < n = omega (arith, r .lots-is) in
-          let mj : j < m = omega (arith, r .calls-is) in
-          rw (lt-ltb i (bookLots book) hi, lt-ltb j (bookCalls book) hj, lt-ltb i n ni, lt-ltb j m mj)
-          (set-remains i j ni (omega (arith, few-calls)))
+  filled-same = stated-same r (λ i j. entry slacks j i) slack-here
 
-      cost : (i j : ℕ) → Eligible (problemOf book) i j
-          → problemOf book .cost i j + (costLimit - costBase (bookVersion book)) ≡ suc costTop - entry slacks j i + 0
-      cost i j (hi, hj, t) =
-          let ni : i < n = omega (arith, r .lots-is) in
-          let b = bit (rowWord (rowAt book i)) j in
-          let (_, rest) = and-says (ltb i (bookLots book)) (ltb j (bookCalls book) && b) t in
-          let (_, here) = and-says (ltb j (bookCalls book)) b rest in
-          omega (
-            arith,
-            slack-at i j ni (omega (arith, r .known .calls-within)),
-            counted-of b (suc costTop - liftedCost costLimit (rowCost (rowAt book i) j)) here,
-            raised-low (row-known i ni) j (T-true b here),
-            raised-is (bookVersion book) (rowCost (rowAt book i) j) (row-known i ni .costs-within j hj here),
-          )
-
-  -- the idle call costs 0, and so in the one problem the base, in the other the limit
   pub filled-idle : Same (enlarged book) (withIdle costLimit (bySlacks slacks n m))
-  unfolding filled-same
-  filled-idle = idle-same filled-same (costBase (bookVersion book)) costLimit (omega (arith, base-within (bookVersion book)))
+  filled-idle = stated-idle r (λ i j. entry slacks j i) slack-here
 
   pub filled-slacks : Slacks slacks n m
   filled-slacks = record {
-    lots-few = few-lots;
+    lots-few = omega (arith, r .lots-is, r .known .lots-within);
     calls-few = few-calls;
     capped = all .capped;
-    beyond = λ i j hi hm hj. slack-at i j hi hj
-        ∙ rw (bit-past (rowWord (rowAt book i)) j (lt-of-lt-of-le (row-known i hi .word-below) (pow-mono (omega (arith, r .calls-is)))));
+    beyond = λ i j hi hm hj.
+        let row = r .known .row i (omega (arith, r .lots-is)) in
+        slack-at i j hi hj ∙ rw (bit-past (rowWord (rowAt book i)) j (lt-of-lt-of-le (row .word-below) (pow-mono (omega (arith, r .calls-is)))));
     long = all .long;
   }

@@ -14,7 +14,7 @@ use Rattle.book.specs.Table.{entry}
 use Rattle.finder.specs.Table.{Filled}
 use Rattle.slacks.specs.Slacks.{Capped}
 use Rattle.words.specs.Words.{Without}
-use Rattle.finder.specs.Words.{isLeft}
+use Rattle.words.specs.Lefts.{isLeft}
 use Rattle.finder.specs.Rows.{gapTop, gapAt, Lowered, Reached, LoweredBy, WorkedOut, Rows}
 use Rattle.words.proofs.Sets.{bit-none}
 

@@ -13,7 +13,8 @@ use Rattle.specification.specs.Book.{bit}
 use Rattle.book.specs.Table.{entry}
 use Rattle.slacks.specs.Slacks.{Capped}
 use Rattle.words.specs.Words.{Below, Without, Minus}
-use Rattle.finder.specs.Words.{isLeft, Words}
+use Rattle.words.specs.Lefts.{isLeft}
+use Rattle.finder.specs.Words.{Words}
 use Rattle.finder.specs.Rows.{gapAt, Rows}
 use Rattle.finder.specs.Waiting.{Fitting, LetsPass, Passes, Told, Waits}
 use Rattle.transport.proofs.Laws.Tests.{T-of}

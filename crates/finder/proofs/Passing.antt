@@ -19,7 +19,8 @@ use Rattle.transport.proofs.Finder.Free.{Takeable, next-is}
 use Rattle.specification.specs.Book.{bit}
 use Rattle.book.specs.Table.{entry}
 use Rattle.slacks.specs.Slacks.{remains, bySlacks, Slacks}
-use Rattle.finder.specs.Words.{isLeft, Eligible, Words}
+use Rattle.words.specs.Lefts.{isLeft}
+use Rattle.finder.specs.Words.{Eligible, Words}
 use Rattle.finder.specs.Waiting.{Fitting, Passes, FirstPair}
 use Rattle.words.proofs.Sets.{bit-none}
 use Rattle.slacks.proofs.BySlacks.{admits-is}

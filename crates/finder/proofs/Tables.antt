@@ -1,20 +1,12 @@
 -- Laws of tables filled row by row.
 use mathlib.Core.Path.{_≡_, refl, _∙_}
-use mathlib.Core.Logic.{_⊎_, inl, inr, by-cases}
 use mathlib.Core.List.{List}
 use Prim.Native.Nat.{ℕ, _+_, _*_, _<_}
-use native.Mathlib.Decide.{ℕ-discrete}
 use native.Mathlib.Omega.{arith}
 use borrow.Author.Count.{below-more}
 use lib.ListN.{length, set, length-set}
 use lib.Seq.{getD-set-same, getD-set-other}
 use Rattle.finder.specs.Table.{Filled}
-
--- the pair or another
-pub same-pair : (a l i j : ℕ) → ((a ≡ i) × (l ≡ j)) ⊎ ((a ≡ i) × (l ≡ j) → ⊥)
-same-pair a l i j = by-cases (ℕ-discrete a i)
-    (λ y. by-cases (ℕ-discrete l j) (λ z. inl (y, z)) (λ z. inr (λ both. z (both .1))))
-    (λ y. inr (λ both. y (both .0)))
 
 -- a row filled from the front
 pub filled-none : (i : ℕ) (f : ℕ → ℕ) (t : List ℕ) → Filled i f 0 t t

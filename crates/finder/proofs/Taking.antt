@@ -14,24 +14,13 @@ use lib.Seq.{getD-set-same, getD-set-other}
 use Rattle.specification.specs.Book.{bit}
 use Rattle.book.specs.Table.{entry}
 use Rattle.words.specs.Words.{IncludingIf}
-use Rattle.finder.specs.Words.{TakenFrom, isLeft, Words}
+use Rattle.words.specs.Lefts.{isLeft}
+use Rattle.finder.specs.Words.{Words}
 use Rattle.finder.specs.Rows.{Rows}
 use Rattle.finder.specs.Waiting.{LetsPass, Hindered, Waits, Asks, takenMark, Taken}
 use Rattle.finder.specs.Work.{Holding}
-use Rattle.finder.proofs.Tables.{same-pair}
+use Rattle.words.proofs.Lefts.{same-pair, gone, stays, fewer}
 use Rattle.finder.proofs.Asking.{if-unset}
-
-module _ {i j : ℕ} {before after : List ℕ} (q : TakenFrom i j before after) where
-  pub gone : (a l : ℕ) → (a ≡ i) × (l ≡ j) → isLeft after a l ≡ false
-  gone a l (y, z) = rw (y, z) (q .own .out)
-
-  pub stays : (a l : ℕ) → ((a ≡ i) × (l ≡ j) → ⊥) → isLeft after a l ≡ isLeft before a l
-  stays a l d = by-cases (ℕ-discrete a i)
-      (λ y. subst⁻¹ (λ (g : ℕ). isLeft after g l ≡ isLeft before g l) y (q .own .others l (λ z. d (y, z))))
-      (λ y. ap (λ (w : ℕ). bit w l) (q .others a y))
-
-  fewer : (a l : ℕ) → isLeft after a l ≡ true → isLeft before a l ≡ true
-  fewer a l e = ⊎-elim (λ z. absurd (true≢false (sym e ∙ gone a l z))) (λ d. sym (stays a l d) ∙ e) (same-pair a l i j)
 
 module _ (slacks eligible lefts holders least worked waits asks : List ℕ)
     (h : Holding slacks eligible lefts holders least worked waits asks) (i j : ℕ) (hi : i < 32) (hj : j < 32)

@@ -11,9 +11,9 @@ use lib.Seq.{getD-set-same, getD-set-other}
 use Rattle.specification.specs.Book.{bit}
 use Rattle.book.specs.Table.{entry}
 use Rattle.words.specs.Words.{LowestIn, Without}
-use Rattle.finder.specs.Words.{isLeft}
+use Rattle.words.specs.Lefts.{isLeft}
 use Rattle.finder.specs.Waiting.{LetsPass, Hinders, Passes, Hindered, Waits, Asks, Tried, FirstCall, FirstPair}
-use Rattle.finder.proofs.Tables.{same-pair}
+use Rattle.words.proofs.Lefts.{same-pair}
 use Rattle.words.proofs.Sets.{bit-none}
 use Rattle.finder.proofs.Marks.{ToAsk}
 

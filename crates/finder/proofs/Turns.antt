@@ -1,26 +1,22 @@
--- The search's turns: what it keeps at first, and that a pair taken is out of what is left.
+-- What the search keeps at first.
 use mathlib.Core.Path.{_≡_, sym, _∙_}
-use mathlib.Core.Logic.{⊎-elim}
-use mathlib.Core.Bool.{and-true, and-false, true≢false}
+use mathlib.Core.Bool.{true≢false}
 use mathlib.Core.List.{List}
 use Prim.Native.Nat.{ℕ, _+_, _*_, _≤_, _<_}
 use native.Mathlib.Nat.{mul-le-mul}
 use native.Mathlib.Omega.{arith}
 use lib.ListN.{replicate, length-replicate, getD-replicate}
 use Rattle.transport.specs.Problem.{Problem}
-use Rattle.transport.specs.Greedy.{pair}
-use Rattle.transport.specs.Finder.{without, size}
-use Rattle.transport.proofs.Laws.Tests.{T-true, T-false, same, same→eq, same-of-eq}
-use Rattle.transport.proofs.Laws.Sets.{Agree, count-le}
+use Rattle.transport.specs.Finder.{size}
+use Rattle.transport.proofs.Laws.Sets.{count-le}
 use Rattle.book.specs.Table.{entry}
 use Rattle.slacks.specs.Slacks.{bySlacks, Slacks}
-use Rattle.finder.specs.Words.{TakenFrom, isLeft, Eligible, Words}
+use Rattle.words.specs.Lefts.{isLeft}
+use Rattle.finder.specs.Words.{Eligible, Words}
 use Rattle.finder.specs.Waiting.{Marks}
 use Rattle.finder.specs.Work.{Holding}
 use Rattle.slacks.proofs.BySlacks.{admits-is}
 use Rattle.finder.proofs.Lowering.{rows-first}
-use Rattle.finder.proofs.Tables.{same-pair}
-use Rattle.finder.proofs.Taking.{gone, stays}
 use Rattle.slacks.proofs.Going.{Going, going-start}
 
 module _ (slacks : List ℕ) (n m : ℕ) (r : Slacks slacks n m) where
@@ -55,10 +51,3 @@ module _ (slacks : List ℕ) (n m : ℕ) (r : Slacks slacks n m) where
     pub going-first : (pairs : List ℕ) (total : ℕ) → total ≡ size P → Going P (isLeft lefts) pairs 0 total
     going-first pairs total e = going-start P (isLeft lefts)
         (λ i j hi hj. admits-is slacks n m i j hi hj ∙ sym (g .each i j hi (omega (arith, r .calls-few)))) pairs total e (omega (arith, size-few))
-
-  -- the pair is taken
-  pub gone-agrees : (i j : ℕ) (lefts lefts′ : List ℕ) → TakenFrom i j lefts lefts′ → Agree P (without (isLeft lefts) (pair i j)) (isLeft lefts′)
-  gone-agrees i j lefts lefts′ q a l ha hl = ⊎-elim
-      (λ z. rw (T-true (same a l (pair i j)) (same-of-eq a l (pair i j) (z .0) (z .1))) (and-false (isLeft lefts a l) ∙ sym (gone q a l z)))
-      (λ d. rw (T-false (same a l (pair i j)) (λ t. d (same→eq a l (pair i j) t))) (and-true (isLeft lefts a l) ∙ sym (stays q a l d)))
-      (same-pair a l i j)

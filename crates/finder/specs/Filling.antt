@@ -1,18 +1,13 @@
 -- What a book's rows make of a table of slacks, row by row.
 use mathlib.Core.Path.{_≡_}
-use mathlib.Core.Bool.{true, cond}
+use mathlib.Core.Bool.{true}
 use mathlib.Core.List.{List}
-use Prim.Native.Nat.{ℕ, suc, _+_, _*_, _-_, _≤_, _<_}
+use Prim.Native.Nat.{ℕ, _+_, _*_, _≤_, _<_}
 use lib.ListN.{length}
-use Rattle.specification.specs.Costs.{costLimit, costTop, liftedCost}
-use Rattle.specification.specs.Book.{bit, rowWord, rowCost, rowAt, rowStart}
+use Rattle.specification.specs.Book.{rowStart}
 use Rattle.book.specs.Pairs.{readable}
 use Rattle.book.specs.Table.{entry}
-use Rattle.slacks.specs.Slacks.{Capped}
-
--- the slack of (i, j) by a book
-abbrev pub slackIn : List ℕ → ℕ → ℕ → ℕ
-slackIn book i j = cond (bit (rowWord (rowAt book i)) j) (suc costTop - liftedCost costLimit (rowCost (rowAt book i) j)) 0
+use Rattle.slacks.specs.Slacks.{slackIn, Capped}
 
 -- by lot and then by call, the slacks of the pairs before number x stand in the table, and no others
 pub record Entered (book : List ℕ) (x : ℕ) (slacks : List ℕ) : Type 0 where

@@ -7,7 +7,7 @@ use lib.ListN.{length, getD}
 use Rattle.specification.specs.Costs.{costTop}
 use Rattle.specification.specs.Book.{bit}
 use Rattle.book.specs.Table.{entry}
-use Rattle.finder.specs.Words.{isLeft}
+use Rattle.words.specs.Lefts.{isLeft}
 
 -- no gap is above it
 abbrev pub gapTop : ℕ

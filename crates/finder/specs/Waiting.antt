@@ -10,7 +10,8 @@ use Rattle.specification.specs.Book.{bit}
 use Rattle.book.specs.Table.{entry}
 use Rattle.slacks.specs.Slacks.{Capped}
 use Rattle.words.specs.Words.{IncludingIf}
-use Rattle.finder.specs.Words.{TakenFrom, isLeft, Words}
+use Rattle.words.specs.Lefts.{isLeft, TakenFrom}
+use Rattle.finder.specs.Words.{Words}
 use Rattle.finder.specs.Rows.{gapAt, Rows}
 use Rattle.finder.specs.declared.waiting.Next.{Next}
 use Rattle.finder.specs.declared.waiting.Next.the-variants.{Pair, Nothing}

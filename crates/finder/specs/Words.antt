@@ -5,7 +5,8 @@ use mathlib.Core.List.{List}
 use Prim.Native.Nat.{ℕ, _≤_, _<_}
 use lib.ListN.{length, getD}
 use Rattle.specification.specs.Book.{bit}
-use Rattle.words.specs.Words.{Without, IncludingIf}
+use Rattle.words.specs.Words.{IncludingIf}
+use Rattle.words.specs.Lefts.{isLeft}
 use Rattle.slacks.specs.Slacks.{remains}
 
 -- the word has the numbers below count at which the test holds, and no other
@@ -18,16 +19,6 @@ pub record Included (test : ℕ → Bool) (count j : ℕ) (before after : List �
   pub passed : (k : ℕ) → k < count → IncludingIf (test k) (getD before k 0) j (getD after k 0)
   pub later : (k : ℕ) → count ≤ k → getD after k 0 ≡ getD before k 0
   pub long : length after ≡ length before
-
--- j is taken out of word i, and the others are as they were
-pub record TakenFrom (i j : ℕ) (before after : List ℕ) : Type 0 where
-  pub own : Without (getD before i 0) j (getD after i 0)
-  pub others : (k : ℕ) → (k ≡ i → ⊥) → getD after k 0 ≡ getD before k 0
-  pub long : length after ≡ length before
-
--- (i, j) is left
-abbrev pub isLeft : List ℕ → ℕ → ℕ → Bool
-isLeft lefts i j = bit (getD lefts i 0) j
 
 -- each of n lots has the calls at which it has slack, and no other lot has any
 pub record Eligible (slacks : List ℕ) (n : ℕ) (eligible : List ℕ) : Type 0 where

@@ -1,7 +1,9 @@
 // Document 01's known examples, F1 to F14, run through the entry points, a few more inputs to a run that tempt to another answer, runs with
-// an idle call (document 02, request 2), books with rebates (request 4), and books with no lots or no calls (request 5).
+// an idle call (document 02, request 2), books with rebates (request 4), books with no lots or no calls (request 5), and the ticket panel's runs
+// (request 6).
 mod given;
 mod show;
+mod ticket_panel;
 mod zero_counts;
 
 use specification::Found;
@@ -264,4 +266,7 @@ fn main() {
     rebates();
     versions();
     zero_counts::desks();
+    ticket_panel::within_eight();
+    ticket_panel::eight();
+    ticket_panel::above_eight();
 }

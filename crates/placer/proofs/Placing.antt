@@ -2,7 +2,7 @@
 -- asks for. And both entry points are that, after their own refusals.
 use mathlib.Core.Path.{_≡_, refl, sym, _∙_, ap}
 use mathlib.Core.Logic.{_⊎_, inl, inr, by-cases}
-use mathlib.Core.Bool.{Bool, true, false}
+use mathlib.Core.Bool.{Bool, true, false, _||_}
 use mathlib.Core.List.{List, []}
 use mathlib.Core.Option.{Option, some, none}
 use Prim.Native.Nat.{ℕ, _+_, _*_, _≤_, _<_}
@@ -10,6 +10,7 @@ use native.Mathlib.Nat.{le-refl}
 use native.Mathlib.Decide.{ℕ-discrete}
 use native.Mathlib.Omega.{arith}
 use borrow.Author.Tests.{lt-ltb, le-ltb, ne-eqb}
+use lib.Dec.{nltb→le}
 use lib.ListN.{length, take}
 use lib.Seq.{length-take-le}
 use Rattle.transport.specs.Problem.{Problem, Eligible}
@@ -21,13 +22,16 @@ use Rattle.transport.proofs.Orders.Lists.{Lists, lists-of-order}
 use Rattle.transport.proofs.Greedy.Idle.{pair-real}
 use Rattle.transport.proofs.Finder.Find.{find-is-order}
 use Rattle.specification.specs.declared.Placed.{Placed}
-use Rattle.specification.specs.Reply.{gives, refuses, _>>=_, afterwards, Size, statedPlaced}
+use Rattle.specification.specs.Reply.{Reply, gives, refuses, _>>=_, afterwards, Size, statedPlaced}
 use Rattle.specification.specs.Costs.{costBase}
-use Rattle.specification.specs.Book.{bookVersion, bookCalls, readBook, problemOf, costsOf}
+use Rattle.specification.specs.Book.{bookVersion, bookLots, bookCalls, readHead, readBook, problemOf, costsOf}
 use Rattle.specification.specs.Amounts.{lotAmount, callAmount, readAmounts}
 use Rattle.specification.specs.Run.{outcome, flowOf, flowTooShort}
 use Rattle.specification.specs.Find.{orderOr13, foundToRun, findAndRun, findAndRunFlow}
 use Rattle.specification.specs.Idle.{enlarged, lotsTotal, callsTotal, foundToRunIdle, findAndRunIdle, findAndRunIdleFlow}
+use Rattle.specification.specs.Panel.{aboveEight, readPanel}
+use Rattle.specification.proofs.Replies.{not-both, neither-of-or, said-of-given}
+use Rattle.specification.proofs.Books.{head-says, headed-reads}
 use Rattle.book.proofs.Readable.{counts-are}
 use Rattle.finder.specs.Searched.{searched}
 use Rattle.finder.proofs.Idle.{searched-within}
@@ -36,6 +40,26 @@ use Rattle.run.specs.Run.{HoldsState, Loaded, OneCallMore, pairsOf, Accepted, S
 use Rattle.run.proofs.Supplied.{real-part-is, lots-are, calls-are, long-enough, loaded-holds}
 use Rattle.placer.specs.Placing.{Supplied, foundFor, placedBy, flowBy, Places}
 use Rattle.placer.proofs.Found.{IsFile, pairs-are, is-order, as-many}
+
+-- n and m that the panel reads are at most 8
+pub panel-few : (book : List ℕ) (size : Size) → readPanel book ≡ gives size → (bookLots book ≤ 8) × (bookCalls book ≤ 8)
+unfolding readPanel
+panel-few book size e = by-head (readHead book) refl
+  where
+    by-tests : readHead book ≡ gives (record { lots = bookLots book; calls = bookCalls book })
+        → (above : Bool) → (aboveEight (bookLots book) || aboveEight (bookCalls book)) ≡ above → (bookLots book ≤ 8) × (bookCalls book ≤ 8)
+    by-tests head true t =
+        let q : refuses 20 [] ≡ gives size = rw (head, t) at e in
+        absurd (not-both q refl)
+    by-tests head false t =
+        let (lots, calls) = neither-of-or (aboveEight (bookLots book)) (aboveEight (bookCalls book)) (rw t tt) in
+        (nltb→le _ _ lots, nltb→le _ _ calls)
+
+    by-head : (r : Reply Size) → readHead book ≡ r → (bookLots book ≤ 8) × (bookCalls book ≤ 8)
+    by-head (refuses k vs) q =
+        let refused : refuses k vs ≡ gives size = rw q at e in
+        absurd (not-both refused refl)
+    by-head (gives n) q = by-tests (headed-reads book (said-of-given (head-says book) n q .1)) _ refl
 
 module _ (book : List ℕ) (E : Problem) (a b : ℕ → ℕ) (flow : List ℕ) where
   pub places-17 : flowTooShort (problemOf book) flow ≡ true → (refuses 17 [] ≡ placedBy book E a b flow) × (flow ≡ flowBy book E a b flow)

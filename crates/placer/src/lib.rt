@@ -1,5 +1,5 @@
 // What a program calls: finding an order and running it in one call (document 01, "Finding an order"), also with an idle call (document 02,
-// request 2), and the text that is printed of a run ("The printing program").
+// request 2) and for the ticket panel (request 6), and the text that is printed of a run ("The printing program").
 mod text;
 
 use run::inner::Remaining;
@@ -8,9 +8,12 @@ use specification::Counts;
 use specification::Placed;
 use specification::Refusal;
 ghost use mathlib.Core.Path.{_≡_};
-ghost use Rattle.specification.specs.Reply.{statedPlaced};
+ghost use Prim.Native.Nat.{_≤_};
+ghost use Rattle.specification.specs.Reply.{statedCounts, statedPlaced};
+ghost use Rattle.specification.specs.Book.{bookLots, bookCalls};
 ghost use Rattle.specification.specs.Find.{findAndRun, findAndRunFlow};
 ghost use Rattle.specification.specs.Idle.{findAndRunIdle, findAndRunIdleFlow};
+ghost use Rattle.specification.specs.Panel.{aboveEight, readPanel, findAndRunPanel, findAndRunPanelFlow};
 ghost use Rattle.specification.specs.Text.{printed};
 ghost use Rattle.placer.specs.Placing.{Supplied, Places};
 ghost use Rattle.placer.specs.Rendering.{Prints};
@@ -86,6 +89,58 @@ pub fn find_and_run_idle(book: &[u8], amounts: &[u8], flow: &mut [u32]) -> Place
     }
     let enlarged = real.with_idle(m, stock - wanted);
     find_then_run(book, n, m, true, enlarged, flow)
+}
+
+// Whether a count of lots or calls is above 8.
+fn is_above_eight(count: usize) -> bool
+    ensures { λ r. ⌜ r ≡ aboveEight count ⌝ }
+{
+    8 < count
+}
+
+// n and m by the first seven bytes of a book, at most 8 each, or their refusal: 1 to 4, then 20.
+fn read_panel(book: &[u8]) -> Counts
+    ensures { λ r. ⌜ statedCounts r ≡ readPanel (now (book .entry)) ⌝ }
+{
+    let head = book::read_head(book);
+    let Counts::Are(lots, calls) = head else {
+        return head;
+    };
+    if is_above_eight(lots) {
+        return Counts::Refused(Refusal::AboveEight);
+    }
+    if is_above_eight(calls) {
+        return Counts::Refused(Refusal::AboveEight);
+    }
+    head
+}
+
+// What `find_and_run` does, for a book of at most 8 lots and 8 calls: by the panel's own search.
+fn find_and_run_within(book: &[u8], amounts: &[u8], flow: &mut [u32]) -> Placed
+    requires { ⌜ (bookLots (now book) ≤ 8) × (bookCalls (now book) ≤ 8) ⌝ }
+    ensures { λ r. ⌜ statedPlaced r ≡ findAndRun (now (book .entry)) (now (amounts .entry)) (now (flow .entry)) ⌝ }
+    ensures { λ r. ⌜ now (flow .exit) ≡ findAndRunFlow (now (book .entry)) (now (amounts .entry)) (now (flow .entry)) ⌝ }
+{
+    let counts = amounts::read_amounts(book, amounts);
+    let Counts::Are(n, m) = counts else {
+        return Placed::Refused(files::refusal_of(counts));
+    };
+    if flow.len() < n * m {
+        return Placed::Refused(Refusal::BufferTooShort);
+    }
+    panel::find_then_run(book, n, m, amounts, flow)
+}
+
+// The ticket panel's find-and-run, of at most 8 lots and 8 calls: within these it replies and writes as `find_and_run` does.
+pub fn find_and_run_panel(book: &[u8], amounts: &[u8], flow: &mut [u32]) -> Placed
+    ensures { λ r. ⌜ statedPlaced r ≡ findAndRunPanel (now (book .entry)) (now (amounts .entry)) (now (flow .entry)) ⌝ }
+    ensures { λ r. ⌜ now (flow .exit) ≡ findAndRunPanelFlow (now (book .entry)) (now (amounts .entry)) (now (flow .entry)) ⌝ }
+{
+    let panel = read_panel(book);
+    let Counts::Are(_, _) = panel else {
+        return Placed::Refused(files::refusal_of(panel));
+    };
+    find_and_run_within(book, amounts, flow)
 }
 
 // How many bytes of each file are read at most, 4,232 and 264: one more than the largest has, so that a longer one is refused. The largest

@@ -10,6 +10,7 @@ use mir.Facts.{toZ-ofZ}
 use Rattle.specification.specs.Costs.{costLimit}
 use Rattle.specification.specs.Amounts.{amountLimit}
 use Rattle.specification.proofs.Bounds.{pair-cost-within, run-within, find-and-run-within, idle-within}
+use Rattle.specification.proofs.Panels.{panel-given}
 use Rattle.placer_c.specs.Answers.{bitsOf, answerOf}
 use Rattle.placer_c.specs.Signed.{SignedForC}
 
@@ -35,4 +36,6 @@ signed-for-c = record {
   run = λ book order amounts flow o e. rw e (read-back (o .cost) (fits (o .cost) (run-within book order amounts flow o e .1)));
   find-and-run = λ book amounts flow o e. rw e (read-back (o .cost) (fits (o .cost) (find-and-run-within book amounts flow o e .1)));
   find-and-run-idle = λ book amounts flow o e. rw e (read-back (o .cost) (fits (o .cost) (idle-within book amounts flow o e .1)));
+  find-and-run-panel = λ book amounts flow o e.
+      rw e (read-back (o .cost) (fits (o .cost) (find-and-run-within book amounts flow o (panel-given book amounts flow o e .0) .1)));
 }

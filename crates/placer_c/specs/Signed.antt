@@ -11,6 +11,7 @@ use Rattle.specification.specs.Book.{costs, pairCost}
 use Rattle.specification.specs.Run.{runOrder}
 use Rattle.specification.specs.Find.{findAndRun}
 use Rattle.specification.specs.Idle.{findAndRunIdle}
+use Rattle.specification.specs.Panel.{findAndRunPanel}
 use Rattle.placer_c.specs.declared.Answer.{Answer}
 use Rattle.placer_c.specs.Answers.{answerOf, costOf, placed}
 
@@ -30,3 +31,5 @@ pub record SignedForC : Type 0 where
       → costRead (answerOf placed (findAndRun book amounts flow)) ≡ o .cost
   pub find-and-run-idle : (book amounts flow : List ℕ) (o : Outcome) → findAndRunIdle book amounts flow ≡ gives o
       → costRead (answerOf placed (findAndRunIdle book amounts flow)) ≡ o .cost
+  pub find-and-run-panel : (book amounts flow : List ℕ) (o : Outcome) → findAndRunPanel book amounts flow ≡ gives o
+      → costRead (answerOf placed (findAndRunPanel book amounts flow)) ≡ o .cost

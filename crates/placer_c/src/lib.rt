@@ -12,6 +12,7 @@ ghost use Rattle.specification.specs.Check.{checkOrder};
 ghost use Rattle.specification.specs.Run.{runOrder, runFlow};
 ghost use Rattle.specification.specs.Find.{findOrder, findBuffer, findAndRun, findAndRunFlow};
 ghost use Rattle.specification.specs.Idle.{findAndRunIdle, findAndRunIdleFlow};
+ghost use Rattle.specification.specs.Panel.{findAndRunPanel, findAndRunPanelFlow};
 ghost use Rattle.placer_c.specs.Answers.{answerOf, counts, costOf, number, placed, stretchOf};
 
 // A reply: 0 or the refusal's number; 1 for Full, 2 for Short, 3 for Covered, else 0; and up to four values, the others 0. A cost is a
@@ -120,4 +121,13 @@ pub extern "C" fn placer_find_and_run_idle(book: &[u8], amounts: &[u8], flow: &m
     ensures { λ _. ⌜ now (flow .exit) ≡ findAndRunIdleFlow (now (book .entry)) (now (amounts .entry)) (now (flow .entry)) ⌝ }
 {
     told::placed(placer::find_and_run_idle(book, amounts, flow))
+}
+
+// The ticket panel's: at most 8 lots and 8 calls, and within these it answers and writes as `placer_find_and_run` does.
+#[no_mangle]
+pub extern "C" fn placer_find_and_run_panel(book: &[u8], amounts: &[u8], flow: &mut [u32]) -> Answer
+    ensures { λ r. ⌜ r ≡ answerOf placed (findAndRunPanel (now (book .entry)) (now (amounts .entry)) (now (flow .entry))) ⌝ }
+    ensures { λ _. ⌜ now (flow .exit) ≡ findAndRunPanelFlow (now (book .entry)) (now (amounts .entry)) (now (flow .entry)) ⌝ }
+{
+    told::placed(placer::find_and_run_panel(book, amounts, flow))
 }

@@ -23,10 +23,10 @@ module _ (slacks : List ℕ) (i j : ℕ) where
   remains-of h = not-T (eqb (entry slacks j i) 0) (λ t. h (eqb→eq (entry slacks j i) 0 t))
 
 -- a table of zeros is capped, and stays so
-pub capped-zeros : Capped (replicate 1024 0)
-capped-zeros x = by-cases (decLt x 1024)
-    (λ h. omega (arith, getD-replicate {A = ℕ} 1024 x 0 0 h))
-    (λ h. omega (arith, List·getD-eq-default {A = ℕ} (replicate 1024 0) 0 {n = x} (omega (arith, length-replicate {A = ℕ} 1024 0))))
+pub capped-zeros : (size : ℕ) → Capped (replicate size 0)
+capped-zeros size x = by-cases (decLt x size)
+    (λ h. omega (arith, getD-replicate {A = ℕ} size x 0 0 h))
+    (λ h. omega (arith, List·getD-eq-default {A = ℕ} (replicate size 0) 0 {n = x} (omega (arith, length-replicate {A = ℕ} size 0))))
 
 pub capped-set : (t : List ℕ) (x v : ℕ) → Capped t → v ≤ suc costTop → x < length t → Capped (set t x v)
 capped-set t x v h le lt y = by-cases (ℕ-discrete y x)

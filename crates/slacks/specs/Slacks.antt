@@ -1,27 +1,36 @@
--- The slack of a pair is how far its cost lies below one more than the limit, and 0 where the pair is not eligible. A table of slacks has a
--- row of 32 entries for each call, one for each lot, and states a problem, which has the costs with the limit added.
+-- The slack of a pair is how far its cost lies below one more than the limit, and 0 where the pair is not eligible. Slacks state a problem,
+-- which has the costs with the limit added. A table of slacks has a row of 32 entries for each call, one for each lot.
 use mathlib.Core.Path.{_≡_}
-use mathlib.Core.Bool.{Bool, not, _&&_}
+use mathlib.Core.Bool.{Bool, cond, not, _&&_}
 use mathlib.Core.List.{List}
 use Prim.Native.Nat.{ℕ, suc, _-_, _≤_, _<_}
 use lib.Dec.{eqb, ltb}
 use lib.ListN.{length, getD}
 use Rattle.transport.specs.Problem.{Problem}
-use Rattle.specification.specs.Costs.{costTop}
+use Rattle.specification.specs.Costs.{costLimit, costTop, liftedCost}
+use Rattle.specification.specs.Book.{bit, rowWord, rowCost, rowAt}
 use Rattle.book.specs.Table.{entry}
+
+-- the slack of (i, j) by a book
+abbrev pub slackIn : List ℕ → ℕ → ℕ → ℕ
+slackIn book i j = cond (bit (rowWord (rowAt book i)) j) (suc costTop - liftedCost costLimit (rowCost (rowAt book i) j)) 0
+
+-- the problem that the slacks of n lots and m calls state, slack i j being that of (i, j)
+abbrev pub bySlack : (ℕ → ℕ → ℕ) → ℕ → ℕ → Problem
+bySlack slack n m = record {
+  lots = n;
+  calls = m;
+  admits = λ i j. ltb i n && (ltb j m && not (eqb (slack i j) 0));
+  cost = λ i j. suc costTop - slack i j;
+}
+
+-- the same, as a table holds them
+abbrev pub bySlacks : List ℕ → ℕ → ℕ → Problem
+bySlacks slacks n m = bySlack (λ i j. entry slacks j i) n m
 
 -- (i, j) has slack
 abbrev pub remains : List ℕ → ℕ → ℕ → Bool
 remains slacks i j = not (eqb (entry slacks j i) 0)
-
--- the problem that the slacks of n lots and m calls state
-abbrev pub bySlacks : List ℕ → ℕ → ℕ → Problem
-bySlacks slacks n m = record {
-  lots = n;
-  calls = m;
-  admits = λ i j. ltb i n && (ltb j m && remains slacks i j);
-  cost = λ i j. suc costTop - entry slacks j i;
-}
 
 -- no slack is above that of the lowest cost
 abbrev pub Capped : List ℕ → Type 0

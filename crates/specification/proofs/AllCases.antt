@@ -1,4 +1,4 @@
--- Cases computed from the definitions: each number of the table on an input that shows it, and on an input that shows two, the one that
+-- Cases computed from the definitions: each number of the table up to 19 on an input that shows it, and on an input that shows two, the one that
 -- document 01 puts first; what is kept, the marks, and printed texts. F12 to F14 are among them. Files are checked by their names, so a
 -- changed definition is refused here, by a number, before any proof about it is looked at.
 use mathlib.Core.Path.{_≡_, refl}

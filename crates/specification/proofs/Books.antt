@@ -8,6 +8,7 @@ use mathlib.Core.List.{List, []}
 use Prim.Native.Nat.{ℕ, zero, suc, _+_, _*_, _≤_, _<_}
 use native.Mathlib.Nat.{mul-le-mul}
 use native.Mathlib.Omega.{arith}
+use borrow.Author.Tests.{le-ltb}
 use lib.Dec.{T, ltb, ltb→lt, nltb→le}
 use lib.Count.{ones-le}
 use lib.ListN.{length, length-drop}
@@ -23,7 +24,7 @@ use Rattle.specification.specs.Reply.{gives, refuses, Size}
 use Rattle.specification.specs.Bytes.{bookMark}
 use Rattle.specification.specs.Costs.{costLimit, costBase, costOutside, Allows}
 use Rattle.specification.specs.Book.{largestBook, bit, rowWord, rowSize, rowCost, bookVersion, bookLots, bookCalls, countOutside}
-use Rattle.specification.specs.Book.{readRows, readBook, rowAt, problemOf, costsOf}
+use Rattle.specification.specs.Book.{readRows, readHead, readBook, rowAt, problemOf, costsOf}
 use Rattle.specification.specs.Demands.{Readable, BookLimits}
 use Rattle.specification.proofs.Replies.{
   Says,
@@ -83,24 +84,34 @@ module _ (book : List ℕ) (headed : Headed book) where
       rows-say left (suc lot) (omega arith)
       (λ g h. ⊎-elim (λ (same : g ≡ lot). rw same row) (before g) (below-suc h)))
 
-pub book-says : (book : List ℕ) → Says (BookRead book) (BookRefused book) (readBook book)
-unfolding readBook rowAt
-book-says book =
+-- the first seven bytes: 1 to 4
+pub head-says : (book : List ℕ) → Says (λ n. (n ≡ record { lots = bookLots book; calls = bookCalls book }) × Headed book) (BookRefused book) (readHead book)
+head-says book =
     let many-lots : Bool = countOutside (bookLots book) in
     let many-calls : Bool = countOutside (bookCalls book) in
     says-then _ (opening-says bookMark 2 book) (λ k vs. book-opening) (λ _ opened.
     says-unless (many-lots || many-calls) 4 _ _
     (λ t. count-outside opened (⊎-elim (λ n. inl (ltb→lt _ _ n)) (λ m. inr (ltb→lt _ _ m)) (or-says many-lots many-calls t))) (λ within.
     let (lots, calls) = neither-of-or many-lots many-calls within in
-    let headed : Headed book = record {
-      opened = opened;
-      lots-within = nltb→le _ _ lots;
-      calls-within = nltb→le _ _ calls;
-    } in
-    says-then _ (rows-say book headed (bookLots book) 0 (omega arith) (λ g none. absurd (omega arith))) (λ k vs q. q) (λ _ (rows, ends).
+    giving (refl, record { opened = opened; lots-within = nltb→le _ _ lots; calls-within = nltb→le _ _ calls })))
+
+pub headed-reads : (book : List ℕ) → Headed book → readHead book ≡ gives (record { lots = bookLots book; calls = bookCalls book })
+headed-reads book headed =
+    rw (
+      gives-if-never-refused (opening-says bookMark 2 book) (λ k vs. opened-not-refused (headed .opened)) .2,
+      le-ltb 32 (bookLots book) (headed .lots-within),
+      le-ltb 32 (bookCalls book) (headed .calls-within),
+    )
+
+pub book-says : (book : List ℕ) → Says (BookRead book) (BookRefused book) (readBook book)
+unfolding readBook rowAt
+book-says book =
+    says-then _ (head-says book) (λ k vs q. q) (λ n (sizes, headed).
+    rw sizes
+    (says-then _ (rows-say book headed (bookLots book) 0 (omega arith) (λ g none. absurd (omega arith))) (λ k vs q. q) (λ _ (rows, ends).
     giving (record {
       sizes = refl;
-      opened = opened;
+      opened = headed .opened;
       lots-within = headed .lots-within;
       calls-within = headed .calls-within;
       row = rows;

@@ -60,6 +60,7 @@ use Rattle.specification.proofs.Finds.{
 }
 use Rattle.specification.proofs.FindRuns.{find-run-in-table, find-and-run-says, find-and-run-is-run, find-and-run-refused-13}
 use Rattle.specification.proofs.IdleRuns.{idle-in-table, idle-says, request2}
+use Rattle.specification.proofs.Panels.{panel-answered, panel-given}
 
 -- Demand 1. A reply is answered if its refusals have numbers of the table, and leave the buffer as it was.
 answered : {A : Type 0} {G : A → Type 0} {Q : ℕ → List ℕ → Type 0} {r : Reply A} (before after : List ℕ) → Says G Q r
@@ -67,6 +68,11 @@ answered : {A : Type 0} {G : A → Type 0} {Q : ℕ → List ℕ → Type 0} {r 
     → Answered r before after
 answered before after (giving g) numbers left = tt
 answered before after (refusing {k} {vs} q) numbers left = (numbers k vs q, left k vs refl)
+
+find-and-run-answered : (book amounts flow : List ℕ) → Answered (findAndRun book amounts flow) flow (findAndRunFlow book amounts flow)
+unfolding findAndRun findAndRunFlow
+find-and-run-answered book amounts flow = answered flow _ (find-and-run-says book amounts flow) (λ k vs q. find-run-in-table q .0)
+    (λ k vs e. rw (refused-before (foundToRun book amounts flow) _ k vs e) refl)
 
 -- and its text is that of a value, or of a line of the table
 printable : {G : Outcome → Type 0} {Q : ℕ → List ℕ → Type 0} {r : Reply Outcome} → Says G Q r
@@ -76,20 +82,20 @@ printable (giving {a} g) numbers P flow = inl (a, flow, refl)
 printable (refusing {k} {vs} q) numbers P flow = let (r, number, _) = numbers k vs q in inr (r, rw number refl)
 
 pub demand1 : Demand1
-unfolding lotCosts runFlow findOrder findBuffer findAndRun findAndRunFlow findAndRunIdle findAndRunIdleFlow printed
+unfolding lotCosts runFlow findOrder findBuffer findAndRunIdle findAndRunIdleFlow printed
 demand1 = record {
   book = λ book. answered [] [] (book-says book) (λ k vs q. book-in-table q .0) (λ k vs e. refl);
   amounts = λ book amounts. answered [] [] (amounts-say book amounts) (λ k vs q. amounts-in-table q .0) (λ k vs e. refl);
   check = λ book order. answered [] [] (check-says book order) (λ k vs q. check-in-table q .0) (λ k vs e. refl);
-  run = λ book order amounts flow. answered flow _ (run-says book order amounts flow) (λ k vs. run-in-table) (λ k vs e. rw e refl);
-  find = λ book buffer. answered buffer _ (find-says book buffer) (λ k vs. find-in-table)
+  run = λ book order amounts flow. answered flow _ (run-says book order amounts flow) (λ k vs q. run-in-table q .0) (λ k vs e. rw e refl);
+  find = λ book buffer. answered buffer _ (find-says book buffer) (λ k vs q. find-in-table q .0)
       (λ k vs e. rw (refused-before (foundOrder book buffer) _ k vs e) refl);
-  find-and-run = λ book amounts flow. answered flow _ (find-and-run-says book amounts flow) (λ k vs. find-run-in-table)
-      (λ k vs e. rw (refused-before (foundToRun book amounts flow) _ k vs e) refl);
-  find-and-run-idle = λ book amounts flow. answered flow _ (idle-says book amounts flow) (λ k vs. idle-in-table)
+  find-and-run = find-and-run-answered;
+  find-and-run-idle = λ book amounts flow. answered flow _ (idle-says book amounts flow) (λ k vs q. idle-in-table q .0)
       (λ k vs e. rw (refused-before (foundToRunIdle book amounts flow) _ k vs e) refl);
+  find-and-run-panel = λ book amounts flow. panel-answered book amounts flow (find-and-run-answered book amounts flow);
   pair-cost = λ book lot call. answered [] [] (pair-cost-says book lot call) (λ k vs q. book-in-table q .0) (λ k vs e. refl);
-  prints = λ bookFile amountsFile. printable (find-and-run-says _ _ _) (λ k vs. find-run-in-table) _ _;
+  prints = λ bookFile amountsFile. printable (find-and-run-says _ _ _) (λ k vs q. find-run-in-table q .0) _ _;
   costs-of-refused = λ book lot k vs e. rw e refl;
   costs-outside = λ book lot n e outside. rw (e, T-false (ltb lot (n .lots)) (λ t. omega (arith, ltb→lt lot (n .lots) t))) refl;
 }
@@ -128,6 +134,7 @@ demand2 = record {
       let w = written book buffer n e in
       rw (w .file) (find-and-run-is-run book amounts flow (w .order) (w .gave .found));
   find-and-run-13 = find-and-run-refused-13;
+  find-and-run-panel = panel-given;
 }
 
 -- Demand 3

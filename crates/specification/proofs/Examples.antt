@@ -24,18 +24,20 @@ use Rattle.specification.specs.Run.{runOrder}
 use Rattle.specification.specs.Find.{orderLength, findOrder}
 use Rattle.specification.specs.Demands.{Readable, Passing, GoodOrder, returned}
 use Rattle.specification.specs.Idle.{enlarged, enlargedCosts}
-use Rattle.specification.specs.Requests.{SomeMeetsCalls, Allowed, IdleRun, ThreeEligible, FirstOutside}
+use Rattle.specification.specs.Requests.{SomeMeetsCalls, Allowed, IdleRun, ThreeEligible, FirstOutside, Alike, AboveEight}
 use Rattle.specification.specs.EmptyDesk.{EmptyDesk, EmptyAmounts, EmptyOpening, NoBits}
 use Rattle.specification.specs.Examples.{book, amounts, book1235, amounts5436, bookGap, bookEmpty, bookDiagonal, known-examples}
 use Rattle.specification.proofs.AllCases.{bookCorners, bookSpare, amountsSpare, idle-cases, bookSteps}
 use Rattle.specification.proofs.AllRebates.{singleSigned, lowCost, bookRebates, bookRebate, amountsRebate, rebate-cases}
 use Rattle.specification.proofs.AllEmptyDesks.{noCalls, noLots, nothingYet, stock, empty-cases}
+use Rattle.specification.proofs.AllPanels.{eightByEight, ticket, panel-cases}
 use Rattle.specification.proofs.Replies.{not-both}
 use Rattle.specification.proofs.Books.{admitted-inside}
 use Rattle.specification.proofs.Verdicts.{short-not-full, short-not-covered}
 use Rattle.specification.proofs.IdleRuns.{request2}
 use Rattle.specification.proofs.Demands.{demand2, demand3}
 use Rattle.specification.proofs.EmptyDesks.{request5}
+use Rattle.specification.proofs.Panels.{request6}
 
 -- the buffers of the examples
 abbrev orderBuffer : List ℕ
@@ -58,7 +60,7 @@ amounts8 = amounts 2 2 (2 ∷ 0 ∷ 1 ∷ 0 ∷ [])
 abbrev amounts10 : List ℕ
 amounts10 = amounts 1 1 (1 ∷ 1 ∷ [])
 
--- what demands 2 and 3 and requests 2 to 5 assume, each met
+-- what demands 2 and 3 and requests 2 to 6 assume, each met
 pub record NotVacuous : Type 0 where
   -- a readable book, a buffer long enough, and an order returned
   pub readable : Readable book1235
@@ -110,6 +112,9 @@ pub record NotVacuous : Type 0 where
   pub each-word-0 : EmptyOpening (noCalls 2) × NoBits (noCalls 2) 2
   pub second-word-1 : EmptyOpening (book 2 0 (0 ∷ 1 ∷ [])) × NoBits (book 2 0 (0 ∷ 1 ∷ [])) 1
   pub second-row-missing : EmptyOpening (book 2 0 (0 ∷ [])) × NoBits (book 2 0 (0 ∷ [])) 1
+  -- a book of eight by eight, and one above it that is refused by none of 1 to 4
+  pub within-eight : Alike eightByEight ticket (replicate 64 9)
+  pub above-eight : AboveEight (book 9 1 []) × AboveEight (book 1 9 [])
 
 length-1235 : orderLength book1235 ≡ 15
 unfolding problemOf rowAt u16At u32At sum ones
@@ -270,4 +275,6 @@ not-vacuous =
       each-word-0 = (opens-empty (0 ∷ 0 ∷ []), request5 .reads (noCalls 2) (opens-empty (0 ∷ 0 ∷ [])) .0 (empty-cases .reads-no-calls) .0);
       second-word-1 = (opens-empty (0 ∷ 1 ∷ []), first-0 (1 ∷ []));
       second-row-missing = (opens-empty (0 ∷ []), first-0 []);
+      within-eight = request6 .within eightByEight ticket (replicate 64 9) (omega arith) (omega arith);
+      above-eight = (request6 .refused-20 _ [] [] .0 (panel-cases .nine-lots), request6 .refused-20 _ [] [] .0 (panel-cases .nine-calls));
     }

@@ -18,8 +18,8 @@ use Rattle.specification.specs.OrderFile.{orderCount, orderPairs, orderF
 use Rattle.specification.specs.Check.{checkOrder}
 use Rattle.specification.specs.Run.{greedyOn, outcome, flowTooShort, runOrder, runFlow}
 use Rattle.specification.specs.Find.{orderLength, orderOr13, foundOrder, findOrder, foundToRun, findAndRun, findAndRunFlow}
-use Rattle.specification.specs.Demands.{InTable, Readable}
-use Rattle.specification.proofs.Replies.{Says, giving, not-both, gives-less, says-known, says-then, says-unless, says-afterwards}
+use Rattle.specification.specs.Demands.{Readable}
+use Rattle.specification.proofs.Replies.{Says, giving, UpTo, not-both, gives-less, says-known, says-then, says-unless, says-afterwards}
 use Rattle.specification.proofs.AmountsFiles.{AmountsOrBookRefused, amounts-say, amounts-read, book-of-amounts}
 use Rattle.specification.proofs.Lines.{amounts-in-table}
 use Rattle.specification.proofs.Checks.{check-passes}
@@ -36,10 +36,10 @@ pub data FindRunRefused (book amounts flow : List ℕ) : ℕ → List ℕ → Ty
       → find (problemOf book) ≡ none → FindRunRefused book amounts flow 13 []
 
 -- each is a line of the table
-pub find-run-in-table : {book amounts flow : List ℕ} {k : ℕ} {vs : List ℕ} → FindRunRefused book amounts flow k vs → InTable k vs
-find-run-in-table (of-amounts q e) = amounts-in-table q .0
-find-run-in-table (flow-too-short reads h) = (refusal.BufferTooShort, refl, refl)
-find-run-in-table (no-order reads long e) = (refusal.NoOrder, refl, refl)
+pub find-run-in-table : {book amounts flow : List ℕ} {k : ℕ} {vs : List ℕ} → FindRunRefused book amounts flow k vs → UpTo 17 k vs
+find-run-in-table (of-amounts q e) = let (line, low) = amounts-in-table q in (line, omega arith)
+find-run-in-table (flow-too-short reads h) = ((refusal.BufferTooShort, refl, refl), omega arith)
+find-run-in-table (no-order reads long e) = ((refusal.NoOrder, refl, refl), omega arith)
 
 pub found-to-run-says : (book amounts flow : List ℕ)
     → Says (λ S. (find (problemOf book) ≡ some S) × (problemOf book .lots * problemOf book .calls ≤ length flow) × Readable book)

@@ -23,11 +23,12 @@ use Rattle.specification.specs.Reply.{gives, refuses}
 use Rattle.specification.specs.Book.{readBook, problemOf}
 use Rattle.specification.specs.OrderFile.{orderFile}
 use Rattle.specification.specs.Find.{orderLength, orderOr13, foundOrder, findOrder, findBuffer}
-use Rattle.specification.specs.Demands.{InTable, Readable, Passing, returned, GoodOrder}
+use Rattle.specification.specs.Demands.{Readable, Passing, returned, GoodOrder}
 use Rattle.specification.proofs.Replies.{
   Says,
   giving,
   refusing,
+  UpTo,
   said-of-given,
   gives-less,
   says-known,
@@ -144,10 +145,10 @@ written book buffer n e =
     }
 
 -- each refusal is a line of the table
-pub find-in-table : {book buffer : List ℕ} {k : ℕ} {vs : List ℕ} → FindRefused book buffer k vs → InTable k vs
-find-in-table (of-book q e) = book-in-table q .0
-find-in-table (buffer-too-short readable h) = (refusal.BufferTooShort, refl, refl)
-find-in-table (no-order readable long e) = (refusal.NoOrder, refl, refl)
+pub find-in-table : {book buffer : List ℕ} {k : ℕ} {vs : List ℕ} → FindRefused book buffer k vs → UpTo 17 k vs
+find-in-table (of-book q e) = let (line, low) = book-in-table q in (line, omega arith)
+find-in-table (buffer-too-short readable h) = ((refusal.BufferTooShort, refl, refl), omega arith)
+find-in-table (no-order readable long e) = ((refusal.NoOrder, refl, refl), omega arith)
 
 -- the finder's file is made of bytes
 pub found-file-bytes : (book : List ℕ) (S : List Pair) → Readable book → find (problemOf book) ≡ some S → AllBytes (orderFile S)

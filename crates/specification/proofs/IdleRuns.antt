@@ -28,11 +28,12 @@ use Rattle.specification.specs.Amounts.{readAmounts, lotAmount, callAmou
 use Rattle.specification.specs.Run.{outcome, flowTooShort}
 use Rattle.specification.specs.Idle.{enlarged, enlargedCosts, lotsTotal, callsTotal, greedyIdleOn}
 use Rattle.specification.specs.Idle.{foundToRunIdle, findAndRunIdle, findAndRunIdleFlow}
-use Rattle.specification.specs.Demands.{InTable, Verdicts, GoodOrder}
+use Rattle.specification.specs.Demands.{Verdicts, GoodOrder}
 use Rattle.specification.specs.Requests.{SomeMeetsCalls, Allowed, IdleRun, Request2}
 use Rattle.specification.proofs.Replies.{
   Says,
   giving,
+  UpTo,
   not-both,
   said-of-given,
   gives-if-never-refused,
@@ -64,12 +65,12 @@ pub data IdleRefused (book amounts flow : List ℕ) : ℕ → List ℕ → Type 
   no-order : Allowed book amounts flow → find (enlarged book) ≡ none → IdleRefused book amounts flow 13 []
 
 -- each is a line of the table
-pub idle-in-table : {book amounts flow : List ℕ} {k : ℕ} {vs : List ℕ} → IdleRefused book amounts flow k vs → InTable k vs
-idle-in-table (of-amounts q e) = amounts-in-table q .0
-idle-in-table (calls-exceed-lots reads h) = (refusal.CallsExceedLots, refl, refl)
-idle-in-table (no-idle-call reads h e) = (refusal.NoIdleCall, refl, refl)
-idle-in-table (flow-too-short reads h few short) = (refusal.BufferTooShort, refl, refl)
-idle-in-table (no-order allowed e) = (refusal.NoOrder, refl, refl)
+pub idle-in-table : {book amounts flow : List ℕ} {k : ℕ} {vs : List ℕ} → IdleRefused book amounts flow k vs → UpTo 19 k vs
+idle-in-table (of-amounts q e) = let (line, low) = amounts-in-table q in (line, omega arith)
+idle-in-table (calls-exceed-lots reads h) = ((refusal.CallsExceedLots, refl, refl), omega arith)
+idle-in-table (no-idle-call reads h e) = ((refusal.NoIdleCall, refl, refl), omega arith)
+idle-in-table (flow-too-short reads h few short) = ((refusal.BufferTooShort, refl, refl), omega arith)
+idle-in-table (no-order allowed e) = ((refusal.NoOrder, refl, refl), omega arith)
 
 -- the order of the enlarged book, where none of them applies
 pub record IdleGave (book amounts flow : List ℕ) (S : List Pair) : Type 0 where

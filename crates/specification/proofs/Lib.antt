@@ -1,7 +1,8 @@
 -- What is proved of document 01's definitions: what each reply means, and the demands.
-pub mod AllCases  -- each number of the table on an input that shows it, computed
+pub mod AllCases  -- each number of the table up to 19 on an input that shows it, computed
 pub mod AllRebates  -- costs below zero (request 4), computed
 pub mod AllEmptyDesks  -- desks with no lots or no calls (request 5), computed
+pub mod AllPanels  -- the ticket panel (request 6), computed
 pub mod Replies  -- what a reply means is read off its steps
 pub mod Numbers  -- little-endian numbers of a part of a file
 pub mod Bits  -- set bits of a word, and the book's test for 5
@@ -24,6 +25,7 @@ pub mod Runs  -- what running an order says, of every order that passes
 pub mod Finds  -- what finding an order says
 pub mod FindRuns  -- finding and running in one call is the run by the order found
 pub mod IdleRuns  -- what finding and running with an idle call says
+pub mod Panels  -- what the ticket panel's call says, and what request 6 promises
 pub mod Bounds  -- units and cost fit 64 bits
 pub mod Rebates  -- what request 4 promises beside the demands
 pub mod EmptyBooks  -- reading a book with no lots or no calls, and its amounts

@@ -28,10 +28,11 @@ use Rattle.specification.specs.Amounts.{readAmounts, lotAmount, callAmou
 use Rattle.specification.specs.OrderFile.{orderPairs}
 use Rattle.specification.specs.Check.{checkOrder}
 use Rattle.specification.specs.Run.{greedyOn, outcome, flowOf, flowTooShort, runOrder, runFlow}
-use Rattle.specification.specs.Demands.{InTable, Passing, Ran, Best, ByPassing}
+use Rattle.specification.specs.Demands.{Passing, Ran, Best, ByPassing}
 use Rattle.specification.proofs.Replies.{
   Says,
   giving,
+  UpTo,
   not-both,
   said-of-given,
   said-of-refused,
@@ -56,10 +57,10 @@ pub data RunRefused (book order amounts flow : List ℕ) : ℕ → List ℕ → 
       → RunRefused book order amounts flow 17 []
 
 -- each is a line of the table
-pub run-in-table : {book order amounts flow : List ℕ} {k : ℕ} {vs : List ℕ} → RunRefused book order amounts flow k vs → InTable k vs
-run-in-table (of-check q e) = check-in-table q .0
-run-in-table (of-amounts passing q e) = amounts-in-table q .0
-run-in-table (flow-too-short passing read h) = (refusal.BufferTooShort, refl, refl)
+pub run-in-table : {book order amounts flow : List ℕ} {k : ℕ} {vs : List ℕ} → RunRefused book order amounts flow k vs → UpTo 17 k vs
+run-in-table (of-check q e) = let (line, low) = check-in-table q in (line, omega arith)
+run-in-table (of-amounts passing q e) = let (line, low) = amounts-in-table q in (line, omega arith)
+run-in-table (flow-too-short passing read h) = ((refusal.BufferTooShort, refl, refl), omega arith)
 
 -- the outcome is GREEDY's, the order passes, the amounts are read, and the flow buffer is long enough
 pub record RunGave (book order amounts flow : List ℕ) (o : Outcome) : Type 0 where

@@ -74,13 +74,19 @@ bookCalls book = byteAt book 6
 abbrev pub countOutside : ℕ → Bool
 countOutside n = ltb 32 n
 
--- "Book: 1, 2, 3, 4; then lot by lot .. then 8"; the reply is n and m
-unfoldable pub readBook : List ℕ → Reply Size
-readBook book = do
+-- "Book: 1, 2, 3, 4"; the reply is n and m
+abbrev pub readHead : List ℕ → Reply Size
+readHead book = do
   _ ← readOpening bookMark 2 book
   _ ← refuseIf (countOutside (bookLots book) || countOutside (bookCalls book)) 4 []
-  _ ← readRows (drop 7 book) (bookVersion book) 0 (bookLots book) (bookCalls book)
   gives (record { lots = bookLots book; calls = bookCalls book })
+
+-- "then lot by lot .. then 8"; the reply is n and m
+unfoldable pub readBook : List ℕ → Reply Size
+readBook book = do
+  n ← readHead book
+  _ ← readRows (drop 7 book) (bookVersion book) 0 (n .lots) (n .calls)
+  gives n
 
 -- the row of a lot: each starts where the one before it ends, the first after the opening
 unfoldable pub rowAt : List ℕ → ℕ → List ℕ

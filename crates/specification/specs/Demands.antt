@@ -26,6 +26,7 @@ use Rattle.specification.specs.Check.{checkOrder}
 use Rattle.specification.specs.Run.{greedyOn, runOrder, runFlow}
 use Rattle.specification.specs.Find.{orderLength, findOrder, findBuffer, findAndRun, findAndRunFlow}
 use Rattle.specification.specs.Idle.{enlarged, greedyIdleOn, findAndRunIdle, findAndRunIdleFlow}
+use Rattle.specification.specs.Panel.{findAndRunPanel, findAndRunPanelFlow}
 use Rattle.specification.specs.Text.{decimal, line, refusedWord, textOf, bookMost, printed}
 
 -- "a number from the table in document 01", and the values that its line returns
@@ -60,6 +61,9 @@ pub record Demand1 : Type 0 where
   -- with an idle call (document 02, request 2)
   pub find-and-run-idle : (book amounts flow : List ℕ)
       → Answered (findAndRunIdle book amounts flow) flow (findAndRunIdleFlow book amounts flow)
+  -- for the ticket panel (document 02, request 6)
+  pub find-and-run-panel : (book amounts flow : List ℕ)
+      → Answered (findAndRunPanel book amounts flow) flow (findAndRunPanelFlow book amounts flow)
   -- "(a lot's costs: by an empty stretch)": of a refused book
   pub costs-of-refused : (book : List ℕ) (lot k : ℕ) (vs : List ℕ) → readBook book ≡ refuses k vs → lotCosts book lot ≡ []
   -- and of a lot number n or more
@@ -188,6 +192,9 @@ pub record Demand2 : Type 0 where
   -- and where no order exists it is refused by 13, "13 last" (document 01)
   pub find-and-run-13 : (book buffer : List ℕ) → findOrder book buffer ≡ refuses 13 [] → (amounts flow : List ℕ) (n : Size)
       → readAmounts book amounts ≡ gives n → n .lots * n .calls ≤ length flow → findAndRun book amounts flow ≡ refuses 13 []
+  -- where the ticket panel's call gives an answer, that and the flow are those of finding and running (document 02, request 6)
+  pub find-and-run-panel : (book amounts flow : List ℕ) (o : Outcome) → findAndRunPanel book amounts flow ≡ gives o
+      → (findAndRun book amounts flow ≡ gives o) × (findAndRunPanelFlow book amounts flow ≡ findAndRunFlow book amounts flow)
 
 -- "An order of the eligible pairs is good if, for all amounts of equal total within the limits, GREEDY by it meets everything whenever
 -- some allocation does, and every other allocation that meets everything costs at least as much" (`SignedGood`, in transport), c being the

@@ -68,6 +68,7 @@ stated refusal.AmountTooHigh = line 16 []
 stated refusal.BufferTooShort = line 17 []
 stated refusal.CallsExceedLots = line 18 []
 stated refusal.NoIdleCall = line 19 []
+stated refusal.AboveEight = line 20 []
 
 -- refused for this cause
 abbrev pub refused : {A : Type 0} → Refusal → Reply A

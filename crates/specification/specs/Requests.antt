@@ -17,14 +17,17 @@ use Rattle.transport.specs.Greedy.{Pair, pair}
 use Rattle.transport.specs.Signed.{signedCost, SignedFit, Lifts}
 use Rattle.specification.specs.declared.Quadruple.{Quadruple}
 use Rattle.specification.specs.declared.Quadruple.the-variants as quadruple
-use Rattle.specification.specs.Reply.{gives, refuses, Size, Outcome, full, covered, statedQuadruple}
-use Rattle.specification.specs.Bytes.{u16At, u32At, bookMark, marked}
+use Rattle.specification.specs.Reply.{Reply, gives, refuses, Size, Outcome, full, covered, statedQuadruple}
+use Rattle.specification.specs.Bytes.{u16At, u32At, bookMark, marked, readOpening}
 use Rattle.specification.specs.Costs.{twosComplement, heldCost, costBase, costOutside, Allows}
 use Rattle.specification.specs.Book.{bit, rowWord, rowSize, rowCost, readRow, bookVersion, bookLots, bookCalls, readBook}
-use Rattle.specification.specs.Book.{rowAt, costStart, problemOf, costsOf}
+use Rattle.specification.specs.Book.{rowAt, costStart, problemOf, costsOf, pairCost}
 use Rattle.specification.specs.Amounts.{readAmounts, lotAmount, callAmount}
 use Rattle.specification.specs.Check.{checkQuadruple, checkOrder}
+use Rattle.specification.specs.Run.{runOrder}
+use Rattle.specification.specs.Find.{findOrder, findAndRun, findAndRunFlow}
 use Rattle.specification.specs.Idle.{enlarged, enlargedCosts, lotsTotal, callsTotal, findAndRunIdle}
+use Rattle.specification.specs.Panel.{findAndRunPanel, findAndRunPanelFlow}
 use Rattle.specification.specs.Demands.{Readable, RanIdle, Verdicts, GoodOrder}
 
 -- some allocation meets every real call
@@ -162,3 +165,31 @@ pub record Request4 : Type 0 where
       → Allocation (problemOf book) a b x → Allocation (problemOf book) a′ b′ y → units (problemOf book) x ≡ units (problemOf book) y
       → (signedCost (problemOf book) (costsOf book) x ≤ℤ signedCost (problemOf book) (costsOf book) y)
       ↔ (totalCost (problemOf book) x ≤ totalCost (problemOf book) y)
+
+-- Request 6. The ticket panel's call replies and writes as the present one does
+pub record Alike (book amounts flow : List ℕ) : Type 0 where
+  pub reply : findAndRunPanel book amounts flow ≡ findAndRun book amounts flow
+  pub writes : findAndRunPanelFlow book amounts flow ≡ findAndRunFlow book amounts flow
+
+-- none of 1 to 4 applies to the book, and "n or m is above 8"
+pub record AboveEight (book : List ℕ) : Type 0 where
+  pub opens : readOpening bookMark 2 book ≡ gives tt
+  pub lots-few : bookLots book ≤ 32
+  pub calls-few : bookCalls book ≤ 32
+  pub above : (8 < bookLots book) ⊎ (8 < bookCalls book)
+
+-- it is never refused by 20
+abbrev pub Never20 : {A : Type 0} → Reply A → Type 0
+Never20 r = (vs : List ℕ) → r ≡ refuses 20 vs → ⊥
+
+pub record Request6 : Type 0 where
+  -- "Within eight by eight both reply and write alike on all inputs"
+  pub within : (book amounts flow : List ℕ) → bookLots book ≤ 8 → bookCalls book ≤ 8 → Alike book amounts flow
+  -- and on each other input whose reply is not 20
+  pub alike : (book amounts flow : List ℕ) → (findAndRunPanel book amounts flow ≡ refuses 20 [] → ⊥) → Alike book amounts flow
+  -- "20 when n or m is above 8, placed directly after 4", whatever follows the first seven bytes
+  pub refused-20 : (book amounts flow : List ℕ) → (findAndRunPanel book amounts flow ≡ refuses 20 []) ↔ AboveEight book
+  -- for this call alone
+  pub alone : (book order amounts buffer flow : List ℕ) (i j : ℕ) → Never20 (readBook book) × Never20 (pairCost book i j)
+      × Never20 (readAmounts book amounts) × Never20 (checkOrder book order) × Never20 (runOrder book order amounts flow)
+      × Never20 (findOrder book buffer) × Never20 (findAndRun book amounts flow) × Never20 (findAndRunIdle book amounts flow)

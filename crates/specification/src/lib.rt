@@ -53,6 +53,8 @@ pub enum Refusal {
     CallsExceedLots,
     // 19: run with an idle call: the book already has 32 calls
     NoIdleCall,
+    // 20: ticket panel: n or m is above 8
+    AboveEight,
 }
 
 // "Reading a book, or amounts with their book, replies n and m" (The three files).

@@ -46,8 +46,8 @@ module _ (base : ℕ) (P : Problem) where
       other (inr t) = t
 
   -- the units of the real calls stay, and the idle call adds its cost for each of its units
-  pub real-units : (x : ℕ → ℕ → ℕ) (i j : ℕ) → j < P .calls → withoutIdle P x i j ≡ x i j
-  real-units x i = put-below (x i) (P .calls) 0
+  pub real-units : (x : ℕ → ℕ → ℕ) (i j : ℕ) → i < P .lots → j < P .calls → withoutIdle P x i j ≡ x i j
+  real-units x i j _ h = put-below (x i) (P .calls) 0 j h
 
   cost-idle : (x : ℕ → ℕ → ℕ) → totalCost (withIdle base P) x ≡ totalCost P x + base * callSum P x (P .calls)
   unfolding sum
@@ -64,8 +64,8 @@ module _ (base : ℕ) (P : Problem) where
 
   -- units in the idle call: the sums of the real calls stay, and each lot has its units more
   module _ (x : ℕ → ℕ → ℕ) (f : ℕ → ℕ) where
-    real-stay : (i j : ℕ) → j < P .calls → withUnits P x f i j ≡ x i j
-    real-stay i = put-below (x i) (P .calls) _
+    real-stay : (i j : ℕ) → i < P .lots → j < P .calls → withUnits P x f i j ≡ x i j
+    real-stay i j _ h = put-below (x i) (P .calls) _ j h
 
     of-lot : (i : ℕ) → i < P .lots → withUnits P x f i (P .calls) ≡ f i
     of-lot i h = put-same (x i) (P .calls) _ ∙ counted-of (ltb i (P .lots)) (f i) (lt→ltb i (P .lots) h)
@@ -78,7 +78,7 @@ module _ (base : ℕ) (P : Problem) where
 
     lot-with : (i : ℕ) → i < P .lots → lotSum (withIdle base P) (withUnits P x f) i ≡ lotSum P x i + f i
     unfolding sum
-    lot-with i h = omega (arith, lotSum-same P (withUnits P x f) x real-stay i, of-lot i h)
+    lot-with i h = omega (arith, lotSum-same P (withUnits P x f) x real-stay i h, of-lot i h)
 
     idle-with : callSum P (withUnits P x f) (P .calls) ≡ sum (P .lots) f
     idle-with = sum-cong (P .lots) _ f of-lot
@@ -92,7 +92,7 @@ module _ (base : ℕ) (P : Problem) where
           (λ e. refl)
           (λ ne. k .eligible-only i j (λ e. n (pair-real i j ne e)));
       waiting = λ i j h. absurd (omega arith);
-      lot-kept = λ i h. omega (arith, k .lot-kept i h, lotSum-same P (withoutIdle P (s .given)) (s .given) (real-units (s .given)) i);
+      lot-kept = λ i h. omega (arith, k .lot-kept i h, lotSum-same P (withoutIdle P (s .given)) (s .given) (real-units (s .given)) i h);
       call-kept = λ j h. omega (
         arith,
         k .call-kept j (omega arith),
@@ -195,5 +195,5 @@ module _ (base : ℕ) (P : Problem) {S : List Pair} (order : OrderOf (withIdle b
         sum-add (P .lots) (lotSum P given) (λ i. given i (P .calls)),
         greedy-allocation (lists-of-order order) a (idleAmounts P a b) .call-within (P .calls) (omega arith),
         put-same b (P .calls) (idleAmount P a b),
-        sum-cong (P .lots) _ _ (λ i l. lotSum-same P (withoutIdle P given) given (real-units base P given) i),
+        sum-cong (P .lots) _ _ (λ i l. lotSum-same P (withoutIdle P given) given (real-units base P given) i l),
       )

@@ -26,7 +26,7 @@ rank-requires c κs =
     let all : start .args .total ≡ start .args .n * start .args .m = c .before .before .before .before .before .before .if2 .left in
     let some : 0 < start .args .total = positive _ (c .before .before .before .before .before .before .before .if1 .left) in (
       (start .pre .0, complete-of (start .args .slacks .now) (start .args .n) (start .args .m) (omega (arith, all)) (sym all ∙ start .pre .1)),
-      (refl, refl, capped-zeros, capped-zeros),
+      (refl, refl, capped-zeros 1024, capped-zeros 1024),
     )
 
 find-ranked-requires : tie.Need-find-ranked-requires

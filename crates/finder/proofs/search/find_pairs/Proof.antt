@@ -5,12 +5,13 @@ use Prim.Native.Nat.{_-_}
 use native.Mathlib.Omega.{arith}
 use lib.ListN.{length}
 use Rattle.slacks.specs.Slacks.{bySlacks}
-use Rattle.finder.specs.Words.{isLeft}
+use Rattle.words.specs.Lefts.{isLeft}
+use Rattle.words.proofs.Lefts.{gone-agrees}
 use Rattle.finder.specs.Waiting.{NextIs}
 use Rattle.finder.specs.Work.{Holding}
 use Rattle.finder.proofs.Taking.{holding-then}
 use Rattle.finder.proofs.Passing.{next-of-pair, none-of-nothing}
-use Rattle.finder.proofs.Turns.{holding-first, going-first, gone-agrees}
+use Rattle.finder.proofs.Turns.{holding-first, going-first}
 use Rattle.slacks.proofs.Going.{Going, going-stop, going-done, going-next}
 use Rattle.finder.proofs.search.find_pairs.Statement.{statement}
 use Rattle.finder.proofs.search.find_pairs.Tie as tie
@@ -88,7 +89,7 @@ loop-again c =
     let t = c .before .before .before .before .take-pair .ensures in (
       c .before .before .put .kept .0 ∙ inv .0,
       going-next (inv .1) (c .before .before .before .before .before .before .before .before .before .before .before .before .before .before .before .before .before .before .before .before .loop-test .taken) _ (next-of-pair (a .slacks .now) (a .n) (a .m) r _ _ _ g (h .words-hold) _ _ f) _
-          (gone-agrees (a .slacks .now) (a .n) (a .m) r _ _ _ _ (t .from-lot)) _ (c .before .before .put .ensures),
+          (gone-agrees (t .from-lot) (bySlacks (a .slacks .now) (a .n) (a .m))) _ (c .before .before .put .ensures),
       holding-then (a .slacks .now) _ _ _ _ _ _ _ (c .before .before .before .before .before .before .before .before .before .before .before .before .first-pair .ensures .1) _ _ (omega (arith, f .lot-in, r .lots-few)) (f .call-in) _ _ _ _ t,
     )
 

@@ -1,0 +1,100 @@
+-- The word of the calls whose pairs with a lot are free, one lot after another, and the lowest of all lots; and the words of least gaps, worked
+-- out for one lot after another.
+use mathlib.Core.Path.{_≡_, refl, sym, _∙_, ap, subst⁻¹}
+use mathlib.Core.Logic.{⊎-elim}
+use mathlib.Core.Bool.{Bool, true, false, not, _&&_, true≢false}
+use mathlib.Core.List.{List}
+use Prim.Native.Nat.{ℕ, _+_, _≤_, _<_}
+use native.Mathlib.Omega.{arith}
+use lib.ListN.{length, getD}
+use Rattle.transport.proofs.Laws.Tests.{below-suc}
+use Rattle.specification.specs.Book.{bit}
+use Rattle.words.specs.Words.{LowestIn, Minus}
+use Rattle.words.proofs.Ends.{word-positive}
+use Rattle.words.specs.Lefts.{isLeft}
+use Rattle.panel.specs.Filling.{cell}
+use Rattle.panel.specs.Gaps.{LeastCalls, Renewed}
+use Rattle.panel.specs.Search.{AllLeast, Frees, FreeCalls, FirstFree}
+
+module _ (lefts least : List ℕ) (i : ℕ) where
+  -- at first all that are left
+  pub free-none : FreeCalls lefts least i 0 (getD lefts i 0)
+  free-none = record { says = λ j e. record { on = e; passed = λ k h. absurd (omega arith) }; all = λ j f. f .on }
+
+  -- one lot more: the calls go that it still has and at which the gap over it is not the least
+  module _ (count free held after : ℕ) (was : FreeCalls lefts least i count free)
+      (hinders : Minus (getD lefts count 0) (cell least i count) held) (less : Minus free held after) where
+    pub free-more : FreeCalls lefts least i (count + 1) after
+    free-more = record { says = says; all = all }
+      where
+        bits : (j : ℕ) → bit after j ≡ (bit free j && not (isLeft lefts count j && not (bit (cell least i count) j)))
+        bits j = less .each j ∙ ap (λ (b : Bool). bit free j && not b) (hinders .each j)
+
+        first : (a b c : Bool) → (a && not (b && not c)) ≡ true → a ≡ true
+        first true b c e = refl
+        first false b c e = e
+
+        second : (a b c : Bool) → (a && not (b && not c)) ≡ true → b ≡ true → c ≡ true
+        second true true true e f = refl
+        second true true false e f = e
+        second true false c e f = absurd (true≢false (sym f))
+        second false b c e f = absurd (true≢false (sym e))
+
+        both : (a b c : Bool) → a ≡ true → (b ≡ true → c ≡ true) → (a && not (b && not c)) ≡ true
+        both a true c e f = rw (e, f refl) refl
+        both a false c e f = rw e refl
+
+        says : (j : ℕ) → bit after j ≡ true → Frees lefts least (count + 1) i j
+        says j e =
+            let is = sym (bits j) ∙ e in
+            let old = was .says j (first (bit free j) (isLeft lefts count j) (bit (cell least i count) j) is) in
+            record {
+              on = old .on;
+              passed = λ k h on. ⊎-elim
+                  (λ (same : k ≡ count). rw same (second (bit free j) (isLeft lefts count j) (bit (cell least i count) j) is (rw same at on)))
+                  (λ below. old .passed k below on)
+                  (below-suc (omega (arith, h)));
+            }
+
+        all : (j : ℕ) → Frees lefts least (count + 1) i j → bit after j ≡ true
+        all j f = bits j ∙ both (bit free j) (isLeft lefts count j) (bit (cell least i count) j)
+            (was .all j (record { on = f .on; passed = λ k h. f .passed k (omega arith) })) (f .passed count (omega arith))
+
+-- none of the lots below i has a free pair
+pub record NoneBelow (lefts least : List ℕ) (i : ℕ) : Type 0 where
+  pub none : (a l : ℕ) → a < i → Frees lefts least 8 a l → ⊥
+
+pub none-below-0 : (lefts least : List ℕ) → NoneBelow lefts least 0
+none-below-0 lefts least = record { none = λ a l h. absurd (omega arith) }
+
+module _ (lefts least : List ℕ) (i free : ℕ) (was : NoneBelow lefts least i) (calls : FreeCalls lefts least i 8 free) where
+  -- nor has lot i
+  pub none-below-more : free ≤ 0 → NoneBelow lefts least (i + 1)
+  none-below-more z = record {
+    none = λ a l h f. ⊎-elim
+        (λ (same : a ≡ i). omega (arith, word-positive free l (calls .all l (rw same at f)), z))
+        (λ below. was .none a l below f)
+        (below-suc (omega (arith, h)));
+  }
+
+  -- or its lowest is the first
+  pub first-free : (j : ℕ) → LowestIn free j → FirstFree lefts least i j
+  first-free j low = record {
+    frees = calls .says j (low .is-in);
+    no-lower-lot = was .none;
+    no-lower-call = λ l lt f. true≢false (sym (calls .all l f) ∙ low .none-below l lt);
+  }
+
+-- the words of one lot more are worked out
+pub all-least-0 : (slacks lefts least : List ℕ) → length least ≡ 64 → AllLeast slacks 0 lefts least
+all-least-0 slacks lefts least long = record { each = λ i k h. absurd (omega arith); long = long }
+
+pub all-least-more : (slacks lefts least least′ : List ℕ) (i : ℕ) → AllLeast slacks i lefts least
+    → Renewed slacks i (getD lefts i 0) 8 least least′ → AllLeast slacks (i + 1) lefts least′
+all-least-more slacks lefts least least′ i was renewed = record {
+  each = λ g k hg hk. ⊎-elim
+      (λ (same : g ≡ i). rw same (renewed .own k hk))
+      (λ below. subst⁻¹ (LeastCalls slacks (getD lefts g 0) g k) (renewed .others g k (λ e. omega arith) hk) (was .each g k below hk))
+      (below-suc (omega (arith, hg)));
+  long = renewed .long ∙ was .long;
+}
