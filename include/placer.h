@@ -20,14 +20,16 @@
  *   book     "CLB" 1 0 n m; for each of n lots a 32-bit word, bit j set if call j is eligible, and a 32-bit cost for each set bit,
  *            lowest bit first. n and m are 0 to 32, a cost is 0 to 1,000,000 hundredths of a cent per unit. Version 2, "CLB" 2 0 n m,
  *            differs in the costs: they are signed, two's complement, -1,000,000 to 1,000,000, below 0 where a rebate is paid.
- *   amounts  "CLA" 1 0 n m; n lot amounts and m call amounts, 32 bits each, 0 to 1,000,000,000 units.
+ *   amounts  "CLA" 1 0 n m; n lot amounts and m call amounts, 32 bits each, 0 to 1,000,000,000 units. Version 2, "CLA" 2 0 n m, has n
+ *            reserves after them, 32 bits each: what the desk holds back of each lot, at most what the lot holds. In every run, and for
+ *            idle stock too, a lot's amount is what it holds less its reserve: reserved units are not placed, and do not count as left.
  *   order    "CLO" 1 0, a 16-bit count of pairs; for each pair a byte for its lot and one for its call. Lots and calls count from 0.
  * A desk may have no lots yet, or no calls: n or m is then 0. Without lots the book is its first 7 bytes, without calls every word is 0.
  * The order has no pairs, 7 bytes, and a flow of 0 entries is enough. A run places 0 units at cost 0: Full if all amounts are 0 or there
  * are none, else Short without lots, Covered without calls.
  *
  * What holds for every call
- *   - Any bytes and any lengths may be handed over. The call returns; it accepts, or refuses by a number from 1 to 20.
+ *   - Any bytes and any lengths may be handed over. The call returns; it accepts, or refuses by a number from 1 to 21.
  *   - What is passed by `const` pointer is read and never written. A buffer is written only where the call accepts; a refusal leaves it
  *     as it was. Nothing outside the stated lengths is read or written, and no pointer is kept.
  *   - A pointer must not be null, even where its length is 0, as for a flow of 0 entries; any other pointer may then be handed over. A
@@ -35,8 +37,8 @@
  *   - No heap, no state, no input or output, no signal, no locale: calls on separate buffers may run at once in any number of threads.
  *   - Stack: at most PLACER_STACK bytes; placer_find_and_run_panel at most PLACER_PANEL_STACK.
  *   - Several refusals can apply; the one reported is the first in this sequence: the book's (1, 2, 3, 4, 20; then lot by lot 6, 5, 6, 7;
- *     then 8), the order's (1, 2, 3, 6, 8; at each pair 9, 10; then 14; then 11 or 12), the amounts' (1, 2, 3, 15, 6, 8, 16), 18, 19,
- *     then 17, and 13 last. 18 and 19 come from placer_find_and_run_idle alone, 20 from placer_find_and_run_panel alone.
+ *     then 8), the order's (1, 2, 3, 6, 8; at each pair 9, 10; then 14; then 11 or 12), the amounts' (1, 2, 3, 15, 6, 8, 16, 21), 18,
+ *     19, then 17, and 13 last. 18 and 19 come from placer_find_and_run_idle alone, 20 from placer_find_and_run_panel alone.
  *
  * Proved: every reply and every buffer, for all inputs, by the contracts of crates/placer_c; that the order found is good, and that one is
  * found whenever a good one exists. Trusted: the Rattle checker and compiler, this header, the C compiler and linker. */
@@ -63,7 +65,7 @@ extern "C" {
 #define PLACER_AMOUNT_MAX 1000000000 /* units */
 #define PLACER_BOOK_MAX 4231         /* bytes of the largest book, order and amounts file */
 #define PLACER_ORDER_MAX 2055
-#define PLACER_AMOUNTS_MAX 263
+#define PLACER_AMOUNTS_MAX 391   /* of version 2; of version 1 it is 263 */
 #define PLACER_FLOW_MAX 1024     /* entries: always enough */
 #define PLACER_STACK 24576       /* bytes: no call takes more (measured; the finder takes most) */
 #define PLACER_PANEL_SIDE_MAX 8  /* lots, and calls, of placer_find_and_run_panel */
@@ -75,7 +77,7 @@ enum placer_number {
     PLACER_ACCEPTED = 0,
     PLACER_UNDER_SEVEN = 1,         /* a file is under 7 bytes */
     PLACER_MARK_DIFFERS = 2,        /* a file does not open with its mark */
-    PLACER_VERSION_NOT_ONE = 3,     /* a file's version is not 1; of a book: neither 1 nor 2 */
+    PLACER_VERSION_NOT_ONE = 3,     /* a file's version is not 1; of a book or amounts: neither 1 nor 2 */
     PLACER_COUNT_OUTSIDE = 4,       /* the book's n or m is above 32 */
     PLACER_BIT_OUTSIDE = 5,         /* an eligibility bit m or higher is set [lot] */
     PLACER_ENDS_EARLY = 6,          /* a file ends before its last field */
@@ -88,11 +90,12 @@ enum placer_number {
     PLACER_NO_ORDER = 13,           /* no order of this book (with an idle call: of the enlarged book) passes the check */
     PLACER_PAIR_MISSING = 14,       /* an eligible pair is missing from the order */
     PLACER_COUNTS_DIFFER = 15,      /* the amounts' n or m differ from the book's */
-    PLACER_AMOUNT_TOO_HIGH = 16,    /* an amount is above 1,000,000,000 */
+    PLACER_AMOUNT_TOO_HIGH = 16,    /* an amount of a lot or call, as the file holds it, is above 1,000,000,000 */
     PLACER_BUFFER_TOO_SHORT = 17,   /* the buffer lent is too short */
-    PLACER_CALLS_EXCEED_LOTS = 18,  /* with an idle call: the calls' total exceeds the lots' total */
+    PLACER_CALLS_EXCEED_LOTS = 18,  /* with an idle call: the calls' total exceeds the lots', less reserves */
     PLACER_NO_IDLE_CALL = 19,       /* with an idle call: the book already has 32 calls */
-    PLACER_ABOVE_EIGHT = 20         /* ticket panel: the book's n or m is above 8 */
+    PLACER_ABOVE_EIGHT = 20,        /* ticket panel: the book's n or m is above 8 */
+    PLACER_RESERVE_EXCEEDS_LOT = 21 /* a reserve is above what its lot holds; tested once no lot or call is 16 */
 };
 
 /* The verdict of a run. Whatever the verdict, no allocation places more units. Least cost is promised for Full, and by
@@ -209,7 +212,7 @@ static inline const char *placer_sentence(uint32_t number)
         "accepted",
         "a file is under 7 bytes",
         "a file does not open with its mark",
-        "a file's version is not 1 (of a book: neither 1 nor 2)",
+        "a file's version is not 1 (of a book or amounts: neither 1 nor 2)",
         "the book's count of lots or calls is above 32",
         "an eligibility bit is set for a call that the book does not have",
         "a file ends before its last field",
@@ -224,9 +227,10 @@ static inline const char *placer_sentence(uint32_t number)
         "the amounts' counts differ from the book's",
         "an amount is above 1,000,000,000",
         "the buffer is too short",
-        "the calls' total exceeds the lots' total",
+        "the calls' total exceeds the lots' total, less their reserves",
         "the book already has 32 calls, and the idle call would be one more",
-        "the book's count of lots or calls is above 8, the most that a ticket panel shows"};
+        "the book's count of lots or calls is above 8, the most that a ticket panel shows",
+        "a reserve is above what its lot holds"};
     return number < sizeof sentences / sizeof sentences[0] ? sentences[number] : "not a number of this library";
 }
 

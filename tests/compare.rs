@@ -2,6 +2,7 @@
 //! verdicts promise and request 2 by brute force. The seed is fixed, so every run is the same. Parts run at the same time in several
 //! threads, as the library allows. The last line is `tests: N cases, D differences`; the exit status is 0 only if D is 0, each number and
 //! each verdict came, and each wrong reference was noticed. A digest of replies and writes is another where a landing changes one of them.
+mod amounts;
 mod checking;
 mod costs;
 mod demand3;
@@ -12,6 +13,7 @@ mod files;
 mod guarded;
 mod idle;
 mod known;
+mod known_reserves;
 mod library;
 mod new_desks;
 mod noticing;
@@ -22,6 +24,7 @@ mod rebates;
 mod reference;
 mod relabelled;
 mod request2;
+mod reserves;
 mod samples;
 mod sections;
 #[path = "../bindings/rust/src/sys.rs"]
@@ -29,7 +32,7 @@ mod sys;
 mod versions;
 mod wrong;
 
-use library::{Books, Comparison, Tallies, Tally, IDLE, OF_PANEL, PANEL};
+use library::{Books, Comparison, Tallies, Tally, DIGESTS, IDLE, OF_PANEL, OF_RESERVES, PANEL};
 use noticing::missed;
 use std::collections::hash_map::DefaultHasher;
 use std::hash::Hasher;
@@ -40,7 +43,7 @@ use std::time::Instant;
 use wrong::Wrong;
 
 /// In the place of a number: a run's cost is below zero.
-const BELOW_ZERO: usize = 21;
+const BELOW_ZERO: usize = 22;
 
 /// The cells of the small books of version 1.
 const SMALL: [Option<i64>; 4] = [None, Some(0), Some(1), Some(2)];
@@ -50,7 +53,7 @@ type Work<'a> = Box<dyn Fn(&mut Comparison) + Sync + 'a>;
 /// What a part came to.
 struct Outcome {
     tallies: Tallies,
-    digests: [u64; 4],
+    digests: [u64; DIGESTS],
     seconds: f64,
 }
 
@@ -101,16 +104,21 @@ fn digest(digests: impl Iterator<Item = u64>) -> u64 {
     all.finish()
 }
 
-/// Prints digests of what the library replied and wrote, the ticket panel's calls apart: with books that have lots and calls, in the parts
-/// from before request 5; with other books there, and in the parts of request 5; and the panel's calls, with all calls in its own parts.
-fn print_digests([before, request_5, request_6]: [&[Outcome]; 3]) {
+/// Prints digests of what the library replied and wrote, the ticket panel's calls and amounts of version 2 apart: with books that have lots
+/// and calls, in the parts from before request 5; with other books there, and in the parts of request 5; the panel's calls, with all calls
+/// in its own parts; and the calls with amounts of version 2, with all calls in the parts of request 7.
+fn print_digests([before, request_5, request_6, request_7]: [&[Outcome]; 4]) {
     let with = |books: Books| before.iter().map(move |done| done.digests[books as usize]);
     println!("replies and writes with books of version 2: {:016x}", digest(with(Books::Version2)));
     println!("replies and writes with all other books: {:016x}", digest(with(Books::Other)));
     let new_desks = with(Books::NewDesk).chain(request_5.iter().flat_map(|done| done.digests.into_iter().take(OF_PANEL)));
     println!("replies and writes with books without lots or calls, and in the parts of request 5: {:016x}", digest(new_desks));
-    let panel = before.iter().chain(request_5).map(|done| done.digests[OF_PANEL]).chain(request_6.iter().flat_map(|done| done.digests));
+    let panel = before.iter().chain(request_5).map(|done| done.digests[OF_PANEL]);
+    let panel = panel.chain(request_6.iter().flat_map(|done| done.digests.into_iter().take(OF_RESERVES)));
     println!("replies and writes of the ticket panel, and in the parts of request 6: {:016x}", digest(panel));
+    let reserves = before.iter().chain(request_5).chain(request_6).map(|done| done.digests[OF_RESERVES]);
+    let reserves = reserves.chain(request_7.iter().flat_map(|done| done.digests));
+    println!("replies and writes with amounts of version 2, and in the parts of request 7: {:016x}", digest(reserves));
 }
 
 /// The parts with books of version 1, the two longest first.
@@ -189,19 +197,38 @@ fn parts_of_request_6<'a>() -> Vec<(&'a str, Work<'a>)> {
     ]
 }
 
-/// The parts from before request 5, those of it, and those of request 6. The printing program's are the last ones, where it is built.
-fn all_parts(path: &Path) -> [Vec<(&str, Work<'_>)>; 3] {
+/// The parts of request 7, with books of both versions.
+fn parts_of_request_7<'a>() -> Vec<(&'a str, Work<'a>)> {
+    let sizes = [(0, 0), (0, 1), (1, 0), (1, 1), (1, 2), (2, 1), (0, 3), (3, 0), (2, 3), (3, 2), (8, 8), (32, 31), (32, 32)];
+    vec![
+        ("reserves, random books to 8 by 8", Box::new(|c| reserves::random_books(c, 3_000, 8))),
+        ("reserves, random books to 32 by 32", Box::new(|c| reserves::random_books(c, 200, 32))),
+        ("reserves, small amounts", Box::new(reserves::few)),
+        ("reserves, versions and lengths", Box::new(move |c| reserves::lengths(c, &sizes))),
+        ("reserves, damaged amounts", Box::new(reserves::damage)),
+        ("reserves, largest amounts", Box::new(reserves::largest)),
+        ("reserves, limits", Box::new(reserves::limits)),
+        ("reserves, several causes", Box::new(reserves::causes)),
+        ("reserves, demand 3 and request 2 by brute force", Box::new(reserves::brute_force)),
+        ("reserves, known replies", Box::new(known_reserves::known)),
+    ]
+}
+
+/// The parts from before request 5, those of it, of request 6 and of request 7. The printing program's are the last ones, where it is
+/// built.
+fn all_parts(path: &Path) -> [Vec<(&str, Work<'_>)>; 4] {
     let mut before = parts_of_version_1();
     before.extend(parts_of_version_2());
-    let mut request_5 = parts_of_request_5();
+    let (mut request_5, mut request_7) = (parts_of_request_5(), parts_of_request_7());
     if path.is_file() {
         before.push(("printing program", Box::new(move |c| program::program(c, path))));
         before.push(("version 2, printing program", Box::new(move |c| program::rebates(c, path))));
         request_5.push(("no lots or calls, printing program", Box::new(move |c| program::new_desks(c, path))));
+        request_7.push(("reserves, printing program", Box::new(move |c| program::reserves(c, path))));
     } else {
         println!("printing program: SKIPPED, it is not built");
     }
-    [before, request_5, parts_of_request_6()]
+    [before, request_5, parts_of_request_6(), request_7]
 }
 
 /// Prints how often each number and each verdict came: in all; with books of version 2; with books without lots or calls, which have no
@@ -220,7 +247,7 @@ fn unseen(outcomes: &[Outcome]) -> u64 {
     ];
     let print = |(name, tally, never): (&str, Tally, &[usize])| {
         let ([_, full, short, covered], numbers) = (tally.verdicts, tally.numbers);
-        print!("{name}: {} cases, accepted {}; refused by 1 to 20: {:?}; ", tally.cases, numbers[0], &numbers[1..]);
+        print!("{name}: {} cases, accepted {}; refused by 1 to 21: {:?}; ", tally.cases, numbers[0], &numbers[1..]);
         println!("runs full {full}, short {short}, covered {covered}, costs below zero {}", tally.below_zero);
         let expected = numbers.into_iter().chain([tally.below_zero]).enumerate().filter(|(number, _)| !never.contains(number));
         expected.map(|(_, times)| times).chain(tally.verdicts).filter(|&times| times == 0).count() as u64
@@ -231,7 +258,7 @@ fn unseen(outcomes: &[Outcome]) -> u64 {
 fn main() {
     let path = std::env::args().nth(1).unwrap_or_default();
     let parts = all_parts(Path::new(&path));
-    let (before, request_5) = (parts[0].len(), parts[1].len());
+    let counts = [0, 1, 2, 3].map(|group| parts[group].len());
     let (names, works): (Vec<&str>, Vec<Work>) = parts.into_iter().flatten().unzip();
     let outcomes = run_all(&works.into_iter().map(|work| (Wrong::Nothing, work)).collect::<Vec<_>>());
     let (mut cases, mut differences) = (0, 0);
@@ -242,8 +269,12 @@ fn main() {
         differences += tally.differences;
     }
     differences += unseen(&outcomes);
-    let (earlier, request_6) = outcomes.split_at(before + request_5);
-    print_digests([&earlier[..before], &earlier[before..], request_6]);
+    let mut rest = &outcomes[..];
+    print_digests(counts.map(|count| {
+        let (group, later) = rest.split_at(count);
+        rest = later;
+        group
+    }));
 
     let (missed, wrong) = missed(Path::new(&path));
     println!("wrong references: {} of {wrong} noticed", wrong - missed.len());

@@ -23,6 +23,11 @@ impl Costs {
         Costs::of(lots, calls, |_, _| Some(cost))
     }
 
+    /// Lot k is eligible for call k alone, at cost 1.
+    pub fn own_call(lots: usize, calls: usize) -> Costs {
+        Costs::of(lots, calls, |i, j| (i == j).then_some(1))
+    }
+
     /// How many lots and calls.
     pub fn size(&self) -> (usize, usize) {
         (self.rows.len(), self.calls)

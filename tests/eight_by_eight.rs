@@ -137,7 +137,7 @@ pub fn damage(c: &mut Comparison) {
 
 /// A file as it is, and with an error of each kind: under seven bytes, another mark and version, cut, lengthened, and with high bytes in
 /// its first field.
-fn spoilt(file: &[u8]) -> Vec<Vec<u8>> {
+pub fn spoilt(file: &[u8]) -> Vec<Vec<u8>> {
     let changed = |at: usize, bytes: &[u8]| {
         let mut file = file.to_vec();
         file.iter_mut().skip(at).zip(bytes).for_each(|(byte, &other)| *byte = other);

@@ -26,6 +26,18 @@ pub fn amounts_file(lots: usize, calls: usize, amounts: &[u64]) -> Vec<u8> {
     file
 }
 
+/// Amounts of version 2: those of version 1, and then a reserve for each lot.
+pub fn reserved_file(lots: usize, calls: usize, amounts: &[u64], reserves: &[u64]) -> Vec<u8> {
+    relabelled(&amounts_file(lots, calls, &[amounts, reserves].concat()), 2)
+}
+
+/// Amounts of version 2 that are these once each lot's reserve is taken off.
+pub fn amounts_above(reserves: &[u64], calls: usize, amounts: &[u64]) -> Vec<u8> {
+    let mut held = amounts.to_vec();
+    held.iter_mut().zip(reserves).for_each(|(units, reserve)| *units += reserve);
+    reserved_file(reserves.len(), calls, &held, reserves)
+}
+
 /// A file with another version.
 pub fn relabelled(file: &[u8], version: u16) -> Vec<u8> {
     [&file[..3], &version.to_le_bytes(), &file[5..]].concat()

@@ -1,7 +1,8 @@
 //! The reference's run with an idle call, request 2 of document 02: the enlarged book is built, an order of it found, and the idle call
 //! dropped from what GREEDY gives.
+use crate::amounts::Amounts;
 use crate::placing::{Run, Verdict};
-use crate::reference::{refuse, Book, Pair, Refused};
+use crate::reference::{refuse, word, Book, Pair, Refused};
 use crate::wrong::Wrong;
 
 fn total(amounts: &[u64]) -> u64 {
@@ -10,9 +11,9 @@ fn total(amounts: &[u64]) -> u64 {
 
 /// Whether the calls' total exceeds the lots', in a file whose length is right, however high its amounts.
 fn exceeds(file: &[u8]) -> bool {
-    let amounts: Vec<u64> = file[7..].chunks(4).map(|b| u32::from_le_bytes([b[0], b[1], b[2], b[3]]) as u64).collect();
-    let (lots, calls) = amounts.split_at(file[5] as usize);
-    total(calls) > total(lots)
+    let (lots, calls) = (file[5] as usize, file[6] as usize);
+    let amounts: Vec<u64> = (0..lots + calls).map(|k| word(file, 7 + 4 * k) as u64).collect();
+    total(&amounts[lots..]) > total(&amounts[..lots])
 }
 
 impl Wrong {
@@ -80,12 +81,14 @@ impl Wrong {
             return refuse(18, &[]);
         }
         let amounts = read?;
-        let (lots, calls) = (total(&amounts[..book.lots]), total(&amounts[book.lots..]));
-        self.idle_refused(&book, lots, calls, flow)?;
+        let (lots, calls) = (total(&amounts.units[..book.lots]), total(&amounts.units[book.lots..]));
+        let held = lots + total(&amounts.reserves);
+        self.idle_refused(&book, if self == Wrong::TotalsWithReserves { held } else { lots }, calls, flow)?;
         let idle_entries = if self == Wrong::ShortBufferWithIdleCall { book.lots } else { 0 };
         let pairs = self.idle_order(&book, flow.len() < self.entries(&book) + idle_entries)?;
-        let mut enlarged = amounts.clone();
-        enlarged.insert(book.lots + self.idle_call(&book), self.idle_amount(lots, calls));
+        let mut enlarged = amounts.units.clone();
+        let idle = self.idle_amount(if self == Wrong::IdleAmountWithReserves { held } else { lots }, calls);
+        enlarged.insert(book.lots + self.idle_call(&book), idle);
         let given = self.greedy(&self.enlarged(&book), &pairs, &enlarged);
         Ok(self.without_idle(&book, &amounts, given, flow))
     }
@@ -96,12 +99,13 @@ impl Wrong {
             Wrong::IdleCallGivenNothing => 0,
             Wrong::IdleAmountOfAllLots => lots,
             Wrong::IdleAmountIn32Bits => (lots - calls) as u32 as u64,
+            Wrong::TotalsWithReserves => lots.saturating_sub(calls),
             _ => lots - calls,
         }
     }
 
     /// Flow, units, cost and verdict of the real calls, the units in the idle call counting as left.
-    fn without_idle(self, book: &Book, amounts: &[u64], mut given: Vec<Vec<u64>>, flow: &[u32]) -> Run {
+    fn without_idle(self, book: &Book, amounts: &Amounts, mut given: Vec<Vec<u64>>, flow: &[u32]) -> Run {
         let wide: Vec<u64> = given.concat();
         let idle: u64 = given.iter_mut().map(|row| row.remove(self.idle_call(book))).sum();
         let mut run = self.returned(book, amounts, &given, flow);

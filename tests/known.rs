@@ -8,7 +8,12 @@ use crate::placing::Verdict;
 use crate::sections::some_order;
 use crate::sys::Reply;
 
-const BILLION: u64 = 1_000_000_000;
+pub const BILLION: u64 = 1_000_000_000;
+
+/// A book of 3 lots, and 3 calls or more, that has no order.
+pub fn no_order(calls: usize) -> Costs {
+    Costs::of(3, calls, |i, j| (j < 3 && i != j).then_some(0))
+}
 
 /// A book with an order whose enlarged book has none. With costs 0 and 1 there is no smaller one.
 fn no_idle_order() -> Costs {
@@ -52,7 +57,7 @@ pub fn known_runs() -> Vec<Known> {
 pub fn one_unit() -> Vec<Known> {
     let mut runs = Vec::new();
     for (lots, calls) in [(2, 3), (1, 32), (32, 1), (32, 32)] {
-        let costs = Costs::of(lots, calls, |i, j| (i == j).then_some(1));
+        let costs = Costs::own_call(lots, calls);
         for at in 0..lots + calls {
             let mut amounts = vec![0; lots + calls];
             amounts[at] = 1;
@@ -97,17 +102,16 @@ fn idle_runs() -> Vec<(Known, Vec<u32>)> {
 /// Runs with an idle call that are refused: book, amounts, entries of the flow buffer, number. Of several causes the first; the enlarged
 /// book without an order; totals that differ by one unit, and above 32 bits.
 fn idle_refused() -> Vec<(Costs, Vec<u64>, usize, u32)> {
-    let wide = |calls: usize| Costs::of(3, calls, |i, j| (j < 3 && i != j).then_some(0));
     let amounts = |calls: usize, last: u64| [vec![0; 2 + calls], vec![last]].concat();
     vec![
-        (wide(32), amounts(32, BILLION + 1), 95, 16),
-        (wide(32), amounts(32, 1), 95, 18),
-        (wide(32), amounts(32, 0), 95, 19),
-        (wide(32), amounts(32, 0), 96, 19),
-        (wide(31), amounts(31, 1), 92, 18),
-        (wide(31), amounts(31, 0), 92, 17),
-        (wide(31), amounts(31, 0), 93, 13),
-        (wide(3), vec![1; 6], 9, 13),
+        (no_order(32), amounts(32, BILLION + 1), 95, 16),
+        (no_order(32), amounts(32, 1), 95, 18),
+        (no_order(32), amounts(32, 0), 95, 19),
+        (no_order(32), amounts(32, 0), 96, 19),
+        (no_order(31), amounts(31, 1), 92, 18),
+        (no_order(31), amounts(31, 0), 92, 17),
+        (no_order(31), amounts(31, 0), 93, 13),
+        (no_order(3), vec![1; 6], 9, 13),
         (no_idle_order(), vec![1, 1, 1, 1, 1], 6, 13),
         (no_idle_order(), vec![0, 0, 0, 0, 0], 6, 13),
         (no_idle_order(), vec![1, 1, 1, 1, 1], 5, 17),

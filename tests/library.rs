@@ -40,7 +40,7 @@ pub struct Tally {
     pub cases: u64,
     pub differences: u64,
     /// How often each number was expected; 0 is an accepted input.
-    pub numbers: [u64; 21],
+    pub numbers: [u64; 22],
     /// How often each verdict was expected; 0 is no run.
     pub verdicts: [u64; 4],
     /// How often a run's cost was expected to be below zero.
@@ -69,6 +69,12 @@ impl Books {
 /// The place of the ticket panel's digest, after those by the book.
 pub const OF_PANEL: usize = 3;
 
+/// The place of the digest with amounts of version 2, whatever the book and the entry point.
+pub const OF_RESERVES: usize = 4;
+
+/// How many digests a part has.
+pub const DIGESTS: usize = 5;
+
 /// Tallies by the name of the entry point, other cases having none, and by the book.
 pub type Tallies = BTreeMap<(&'static str, Books), Tally>;
 
@@ -76,8 +82,9 @@ pub type Tallies = BTreeMap<(&'static str, Books), Tally>;
 pub struct Comparison {
     pub wrong: Wrong,
     pub tallies: Tallies,
-    /// Of every reply, and of the order buffer and the flow after it, by the book; the last of the ticket panel's, whatever the book.
-    streams: [DefaultHasher; 4],
+    /// Of every reply, and of the order buffer and the flow after it, by the book; the ticket panel's, and those with amounts of version 2,
+    /// apart.
+    streams: [DefaultHasher; DIGESTS],
     book: Guarded,
     order: Guarded,
     amounts: Guarded,
@@ -109,10 +116,9 @@ impl Comparison {
         Comparison { wrong, tallies: Tallies::new(), streams: Default::default(), book, order, amounts, flow }
     }
 
-    /// Digests of what the library replied and wrote, by the book, and the ticket panel's: two builds that reply and write alike have the
-    /// same.
-    pub fn digests(&self) -> [u64; 4] {
-        [0, 1, 2, 3].map(|stream| self.streams[stream].finish())
+    /// Digests of what the library replied and wrote, by the stream: two builds that reply and write alike have the same.
+    pub fn digests(&self) -> [u64; DIGESTS] {
+        std::array::from_fn(|stream| self.streams[stream].finish())
     }
 
     fn tally(&mut self, name: &'static str, books: Books, same: bool, what: impl Fn() -> String) -> &mut Tally {
@@ -146,8 +152,13 @@ impl Comparison {
         let parts = (self.book.put(lent.book), self.order.put(lent.order), self.amounts.put(lent.amounts), self.flow.put(lent.flow));
         let got = call(parts.0, parts.1, parts.2, parts.3);
         let books = Books::of(lent.book);
-        let stream = &mut self.streams[if name == PANEL.name { OF_PANEL } else { books as usize }];
-        (got.number, got.verdict, got.values, self.order.items(parts.1), self.flow.items(parts.3)).hash(stream);
+        let stream = match lent.amounts.get(3..5) {
+            Some([2, 0]) => OF_RESERVES,
+            _ if name == PANEL.name => OF_PANEL,
+            _ => books as usize,
+        };
+        let outcome = (got.number, got.verdict, got.values, self.order.items(parts.1), self.flow.items(parts.3));
+        outcome.hash(&mut self.streams[stream]);
         let same = got == expected
             && self.book.holds(after.book)
             && self.order.holds(after.order)
@@ -211,7 +222,7 @@ impl Comparison {
         run: Result<Run, Refused>,
         call: impl Fn(Part<u8>, Part<u8>, Part<u8>, Part<u32>) -> Reply,
     ) {
-        let (expected, after) = match run {
+        let (expected, after) = match self.wrong.above_lot_late(lent.book, lent.amounts, run) {
             Ok(run) => (Ok((run.verdict as u32, vec![run.units, run.cost as u64])), run.flow),
             Err(refused) => {
                 let after = self.wrong.flow_refused(refused.0, lent.flow);

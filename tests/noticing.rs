@@ -1,7 +1,7 @@
 //! The wrong references, and the parts in which each has to be noticed.
 use crate::library::{Comparison, Tallies, PLACE};
-use crate::wrong::{Errors, Wrong, BEFORE_REQUEST_5, REQUEST_5, REQUEST_6};
-use crate::{eight_by_eight, known, new_desks, program, run_all, samples, sections, versions, Work, SMALL};
+use crate::wrong::{Errors, Wrong, BEFORE_REQUEST_5, REQUEST_5, REQUEST_6, REQUEST_7};
+use crate::{eight_by_eight, known, known_reserves, new_desks, program, reserves, run_all, samples, sections, versions, Work, SMALL};
 use std::path::Path;
 
 /// Whether a wrong reference was noticed: by each of these entry points, or by any where none is named.
@@ -67,6 +67,22 @@ fn notice_request_6(c: &mut Comparison, names: &[&str], _: &Path) {
     notice(c, names, &parts);
 }
 
+/// The parts in which an error of request 7 is to be noticed.
+fn notice_request_7(c: &mut Comparison, names: &[&str], path: &Path) {
+    let parts: [&dyn Fn(&mut Comparison); 5] = [
+        &known_reserves::known,
+        &|c| reserves::lengths(c, &[(0, 1), (1, 0), (1, 2)]),
+        &|c| reserves::random_books(c, 200, 4),
+        &reserves::causes,
+        &|c| {
+            if names.contains(&PLACE) {
+                program::reserves(c, path)
+            }
+        },
+    ];
+    notice(c, names, &parts);
+}
+
 /// The wrong references that were not noticed, and how many there are; those of the printing program are left out where it is not built.
 pub fn missed(path: &Path) -> (Vec<Wrong>, usize) {
     let each = |errors: Errors, notice: fn(&mut Comparison, &[&str], &Path)| {
@@ -74,7 +90,7 @@ pub fn missed(path: &Path) -> (Vec<Wrong>, usize) {
         built.map(move |&(wrong, names)| (names, (wrong, Box::new(move |c: &mut Comparison| notice(c, names, path)) as Work)))
     };
     let all = each(BEFORE_REQUEST_5, notice_before_request_5).chain(each(REQUEST_5, notice_request_5));
-    let all = all.chain(each(REQUEST_6, notice_request_6));
+    let all = all.chain(each(REQUEST_6, notice_request_6)).chain(each(REQUEST_7, notice_request_7));
     let (names, parts): (Vec<_>, Vec<_>) = all.unzip();
     let outcomes = run_all(&parts);
     let missed = (0..parts.len()).filter(|&k| !noticed(&outcomes[k].tallies, names[k]));

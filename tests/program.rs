@@ -1,10 +1,12 @@
 //! The printing program, run in a folder of its own and held to the reference's text.
 use crate::costs::{rows, Costs};
-use crate::files::{amounts_file, book_file};
+use crate::files::{amounts_file, book_file, relabelled, reserved_file};
 use crate::known::{known_rebates, known_runs, one_unit, Known};
+use crate::known_reserves::f1_amounts;
 use crate::library::Comparison;
 use crate::new_desks::{desk, known_desks, sizes};
 use crate::rebates::{in_version, stored_rebates};
+use crate::reserves::any_reserved;
 use crate::samples::{amounts, costs, stored_books, Random, KINDS};
 use std::fs;
 use std::io::Write;
@@ -14,6 +16,9 @@ use std::sync::atomic::{AtomicUsize, Ordering};
 
 /// How many folders were made.
 static FOLDERS: AtomicUsize = AtomicUsize::new(0);
+
+/// What is printed on F1.
+const F1: &str = "FULL 9 24\n0 1 5\n1 0 3\n1 1 1\n";
 
 /// The program, and the folder that it is run in.
 struct Place<'a> {
@@ -86,7 +91,7 @@ impl Place<'_> {
             });
             output(&self.program, &self.folder)
         });
-        self.count(got == b"FULL 9 24\n0 1 5\n1 0 3\n1 1 1\n", &got, "a pipe in place of the book");
+        self.count(got == F1.as_bytes(), &got, "a pipe in place of the book");
     }
 
     /// Books with few and with many units; files that are absent, cut and lengthened.
@@ -123,6 +128,23 @@ impl Place<'_> {
             let amounts = amounts_file(lots, calls, &amounts(random, &costs));
             self.check(Some(&book_file(version, &costs)), Some(&amounts));
         }
+    }
+
+    /// The largest amounts, 263 bytes of version 1 and 391 of version 2, cut and lengthened about the length of either.
+    fn largest_amounts(&mut self) {
+        let book = book_file(1, &Costs::own_call(32, 32));
+        let first = long(&amounts_file(32, 32, &[1; 64]), 5_000);
+        let second = long(&reserved_file(32, 32, &[[3; 32], [1; 32]].concat(), &[2; 32]), 5_000);
+        for length in (0..8).chain(255..400).chain([5_000]) {
+            self.check(Some(&book), Some(&first[..length]));
+            self.check(Some(&book), Some(&second[..length]));
+        }
+        let full = format!("FULL 32 32\n{}", (0..32).map(|lot| format!("{lot} {lot} 1\n")).collect::<String>());
+        self.known(&book, &first[..263], &full);
+        self.known(&book, &second[..391], &full);
+        [264, 391, 392, 393].iter().for_each(|&length| self.known(&book, &first[..length], "REFUSED 8\n"));
+        [263, 264, 390].iter().for_each(|&length| self.known(&book, &second[..length], "REFUSED 6\n"));
+        [392, 393, 5_000].iter().for_each(|&length| self.known(&book, &second[..length], "REFUSED 8\n"));
     }
 }
 
@@ -179,5 +201,26 @@ pub fn new_desks(c: &mut Comparison, program: &Path) {
             place.known(&[b'C', b'L', b'B', 1, 0, lots, calls], &[], &format!("REFUSED {refused}\n"));
         }
         place.known(&[&book_file(1, &desk(1, 0))[..10], &[1]].concat(), &[], "REFUSED 5\n");
+    });
+}
+
+/// Amounts of version 2: F1 beside reserves, refusals, the largest amounts, and random books.
+pub fn reserves(c: &mut Comparison, program: &Path) {
+    with_place(c, program, |place| {
+        let (random, f1) = (&mut Random(9), &stored_books()[0]);
+        place.known(f1, &f1_amounts(), F1);
+        place.known(f1, &reserved_file(2, 2, &[5, 4, 3, 6], &[1, 0]), "SHORT 8 22\n0 1 4\n1 0 3\n1 1 1\n");
+        for (version, refused) in [(0, 3), (1, 8), (3, 3), (258, 3)] {
+            place.known(f1, &relabelled(&f1_amounts(), version), &format!("REFUSED {refused}\n"));
+        }
+        for (last, refused) in [(6, 21), (1_000_000_001, 16)] {
+            place.known(f1, &reserved_file(2, 2, &[5, 4, 3, last], &[0, 5]), &format!("REFUSED {refused}\n"));
+        }
+        place.largest_amounts();
+        for turn in 0..100 {
+            let (lots, calls) = (random.below(9) as usize, random.below(9) as usize);
+            let costs = costs(random, KINDS[turn % KINDS.len()], lots, calls);
+            place.check(Some(&book_file(1, &costs)), Some(&any_reserved(random, &costs)));
+        }
     });
 }

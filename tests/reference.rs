@@ -32,7 +32,7 @@ fn bytes(file: &[u8], at: usize) -> [u8; 4] {
     [file[at], file[at + 1], file[at + 2], file[at + 3]]
 }
 
-fn word(file: &[u8], at: usize) -> usize {
+pub fn word(file: &[u8], at: usize) -> usize {
     u32::from_le_bytes(bytes(file, at)) as usize
 }
 
@@ -43,7 +43,10 @@ impl Wrong {
             (Wrong::BookOfVersion0, b"CLB") => &[0, 1, 2],
             (Wrong::BookOfVersion1Alone, b"CLB") => &[1],
             (Wrong::BookOfVersion3, b"CLB") => &[1, 2, 3],
-            (Wrong::OrderOfVersion2, b"CLO") | (Wrong::AmountsOfVersion2, b"CLA") | (_, b"CLB") => &[1, 2],
+            (Wrong::AmountsOfVersion0, b"CLA") => &[0, 1, 2],
+            (Wrong::AmountsOfVersion1Alone, b"CLA") => &[1],
+            (Wrong::AmountsOfVersion3, b"CLA") => &[1, 2, 3],
+            (Wrong::OrderOfVersion2, b"CLO") | (_, b"CLB" | b"CLA") => &[1, 2],
             _ => &[1],
         }
     }
@@ -59,14 +62,15 @@ impl Wrong {
         if &file[..3] != mark {
             return refuse(2, &[]);
         }
-        let version = file[3] as usize + 256 * if self == Wrong::VersionByteAlone { 0 } else { file[4] as usize };
+        let byte_alone = self == Wrong::VersionByteAlone || (self == Wrong::AmountsVersionByteAlone && mark == b"CLA");
+        let version = file[3] as usize + 256 * if byte_alone { 0 } else { file[4] as usize };
         if !self.versions(mark).contains(&version) {
             return refuse(3, &[]);
         }
         Ok(version)
     }
 
-    fn too_high(self, number: i64, limit: i64) -> bool {
+    pub fn too_high(self, number: i64, limit: i64) -> bool {
         number > limit || (self == Wrong::LimitExcluded && number == limit)
     }
 
@@ -183,46 +187,5 @@ impl Wrong {
             None if self == Wrong::NewDeskCostsNothing && book.is_new_desk() => Ok((1, 0)),
             _ => Ok((0, 0)),
         }
-    }
-
-    /// Whether the amounts' counts are others than the book's.
-    fn counts_differ(self, book: &Book, lots: usize, calls: usize) -> bool {
-        match self {
-            Wrong::NewDeskAmountsRefused if book.is_new_desk() => true,
-            Wrong::NewDesksAlike if book.is_new_desk() => lots > 0 && calls > 0,
-            _ => (lots, calls) != (book.lots, book.calls),
-        }
-    }
-
-    pub fn amounts_of(self, book: &Book, file: &[u8]) -> Result<Vec<u64>, Refused> {
-        self.opening(file, b"CLA")?;
-        if self.counts_differ(book, file[5] as usize, file[6] as usize) {
-            return refuse(15, &[]);
-        }
-        let count = (book.lots + book.calls).max((self == Wrong::OneAmountAtLeast) as usize);
-        let size = 7 + 4 * count;
-        if file.len() < size {
-            return refuse(6, &[]);
-        }
-        let too_long = file.len() > size;
-        if too_long && self != Wrong::LengthAfterAmounts {
-            return refuse(8, &[]);
-        }
-        let amounts: Vec<usize> = (0..count).map(|k| word(file, 7 + 4 * k)).collect();
-        let limited = self != Wrong::NewDeskWithoutAmountLimit || !book.is_new_desk();
-        if limited && amounts.iter().any(|&a| self.too_high(a as i64, 1_000_000_000)) {
-            return refuse(16, &[]);
-        }
-        if too_long {
-            return refuse(8, &[]);
-        }
-        Ok(amounts.iter().map(|&a| a as u64).collect())
-    }
-
-    /// The book, and the lots' amounts followed by the calls'.
-    pub fn read_amounts(self, book: &[u8], amounts: &[u8]) -> Result<(Book, Vec<u64>), Refused> {
-        let book = self.read_book(book)?;
-        let amounts = self.amounts_of(&book, amounts)?;
-        Ok((book, amounts))
     }
 }

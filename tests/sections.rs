@@ -9,9 +9,14 @@ use crate::wrong::Wrong;
 
 const FAR: [usize; 6] = [32, 255, 256, 1 << 32, (1 << 32) + 1, usize::MAX];
 
+/// The order that the reference finds.
+pub fn order_found(book: &[u8]) -> Option<Vec<Pair>> {
+    Wrong::Nothing.read_book(book).ok().and_then(|book| Wrong::Nothing.find(&book))
+}
+
 /// An order of the book, of whichever version, or of its pairs as they stand where there is none.
 pub fn some_order(costs: &Costs) -> Vec<Pair> {
-    Wrong::Nothing.read_book(&book_file(2, costs)).ok().and_then(|book| Wrong::Nothing.find(&book)).unwrap_or_else(|| pairs(costs))
+    order_found(&book_file(2, costs)).unwrap_or_else(|| pairs(costs))
 }
 
 /// The cost of every pair of a book, and of pairs next to them.
@@ -31,7 +36,7 @@ pub fn read_and_find(c: &mut Comparison, random: &mut Random, book: &[u8], lengt
 }
 
 /// The check, the amounts and the runs.
-fn check_and_run(c: &mut Comparison, book: &[u8], order: &[u8], amounts: &[u8], flow: &[u32]) {
+pub fn check_and_run(c: &mut Comparison, book: &[u8], order: &[u8], amounts: &[u8], flow: &[u32]) {
     c.check_order(book, order);
     c.read_amounts(book, amounts);
     c.run_order(book, order, amounts, flow);
@@ -164,16 +169,22 @@ pub fn damage(c: &mut Comparison, books: &[Vec<u8>]) {
             c.run_order(book, &order, &amounts, &flow);
             c.run_order(book, &order, &amounts[..3], &flow[..1]);
         }
-        for amounts in damaged(&amounts) {
-            c.read_amounts(book, &amounts);
-            c.run_order(book, &order, &amounts, &flow);
-            c.find_and_run(book, &amounts, &flow);
-            c.find_and_run(book, &amounts, &flow[..(lots * calls).saturating_sub(1)]);
-        }
+        damaged_amounts(c, book, &order, &amounts, &flow);
         for length in 0..lots * calls + 2 {
             c.run_order(book, &order, &amounts, &flow[..length]);
             c.find_and_run(book, &amounts, &flow[..length]);
         }
+    }
+}
+
+/// Amounts with a byte changed, cut and lengthened at each byte, beside a good book, order and flow, and a flow that is too short.
+pub fn damaged_amounts(c: &mut Comparison, book: &[u8], order: &[u8], amounts: &[u8], flow: &[u32]) {
+    let entries = book[5] as usize * book[6] as usize;
+    for amounts in damaged(amounts) {
+        c.read_amounts(book, &amounts);
+        c.run_order(book, order, &amounts, flow);
+        c.find_and_run(book, &amounts, flow);
+        c.find_and_run(book, &amounts, &flow[..entries.saturating_sub(1)]);
     }
 }
 

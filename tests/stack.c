@@ -1,8 +1,8 @@
 /* Measures the stack that each call takes on the largest book, with an order that passes and with one that fails, and on that book less
  * one pair, which the finder searches in another way; the run with an idle call and the ticket panel's on the largest books that they
- * take, of 31 calls and of eight by eight; and the longest calls on books of version 2. The first of all has the loader bind memcpy on
- * its stack where that is done late. The call runs in a thread whose stack was filled with a pattern. Fails if a call takes more than the header says, of all calls or of the panel's. bench/run puts the figures on its
- * page. */
+ * take, of 31 calls and of eight by eight; and the longest calls on books and amounts of version 2. The first of all has the loader bind
+ * memcpy on its stack where that is done late. The call runs in a thread whose stack was filled with a pattern. Fails if a call takes more
+ * than the header says, of all calls or of the panel's. bench/run puts the figures on its page. */
 #define _GNU_SOURCE
 #include <pthread.h>
 #include <stdio.h>
@@ -31,13 +31,14 @@ static uint8_t *put(uint8_t *at, uint32_t value)
     return at + 4;
 }
 
-/* All pairs, less so many of lot 0 with the last calls, in version 2 at costs below zero; every amount at the limit. */
+/* All pairs, less so many of lot 0 with the last calls; every amount at the limit. In version 2 the costs are below zero, and the amounts
+ * have reserves. */
 static void fill(struct desk *desk, uint8_t version, uint32_t lots, uint32_t calls, uint32_t missing)
 {
     uint8_t *at = desk->book + 7;
     uint32_t rebate = version == 2 ? PLACER_COST_MAX : 0;
     memcpy(desk->book, "CLB\1", 5), memcpy(desk->amounts, "CLA\1", 5);
-    desk->book[3] = version;
+    desk->book[3] = desk->amounts[3] = version;
     desk->book[5] = desk->amounts[5] = (uint8_t)lots, desk->book[6] = desk->amounts[6] = (uint8_t)calls;
     for (uint32_t lot = 0; lot < lots; lot++) {
         uint32_t count = lot == 0 ? calls - missing : calls;
@@ -47,6 +48,7 @@ static void fill(struct desk *desk, uint8_t version, uint32_t lots, uint32_t cal
     desk->book_len = (size_t)(at - desk->book);
     at = desk->amounts + 7;
     for (uint32_t k = 0; k < lots + calls; k++) at = put(at, PLACER_AMOUNT_MAX);
+    for (uint32_t lot = 0; version == 2 && lot < lots; lot++) at = put(at, 1);
     desk->amounts_len = (size_t)(at - desk->amounts);
 }
 
@@ -104,10 +106,12 @@ static const struct {
              {"lot_costs", lot_costs, &largest, 0},
              {"pair_cost", pair_cost, &largest, 0},
              {"read_amounts", read_amounts, &largest, 0},
+             {"read_amounts, version 2", read_amounts, &rebates, 0},
              {"check_order, failing", check_order, &largest, PLACER_CROSS_SUM_TOO_HIGH},
              {"find_order", find_order, &largest, 0},
              {"check_order", check_order, &largest, 0},
              {"run_order", run_order, &largest, 0},
+             {"run_order, version 2", run_order, &rebates, 0},
              {"find_and_run", find_and_run, &largest, 0},
              {"find_and_run_idle, 31 calls", find_and_run_idle, &of_31, 0},
              {"find_order, a pair missing", find_order, &less_one, 0},

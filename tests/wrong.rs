@@ -45,6 +45,12 @@ const FINDING: &[&str] = &["find_and_run", "find_and_run_idle", "find_and_run_pa
 /// The entry points that read amounts.
 const AMOUNTS: &[&str] = &["read_amounts", "run_order", "find_and_run", "find_and_run_idle", "find_and_run_panel"];
 
+/// The runs.
+const RUNS: &[&str] = match AMOUNTS {
+    [_, runs @ ..] => runs,
+    [] => AMOUNTS,
+};
+
 wrong! {
     BEFORE_REQUEST_5 {
         &[] =>
@@ -124,9 +130,6 @@ wrong! {
 
         &["check_order", "run_order"] =>
         OrderOfVersion2;
-
-        AMOUNTS =>
-        AmountsOfVersion2;
 
         &["check_order", "run_order", "find_order", "find_and_run", "find_and_run_idle", "find_and_run_panel"] =>
         SumsUnsigned;
@@ -232,5 +235,62 @@ wrong! {
 
         OTHERS =>
         AboveEightEverywhere;
+    }
+    REQUEST_7 {
+        AMOUNTS =>
+        AmountsOfVersion0
+        AmountsOfVersion1Alone
+        AmountsOfVersion3
+        AmountsVersionByteAlone
+        ReservesInVersion1
+        ReservesMayBeAbsent
+        ReserveForEachCall
+        OneReserveAtLeast
+        NoReservesWithoutCalls
+        ReservesBeforeCallAmounts
+        ReservesBeforeLotAmounts
+        ReservesInReverse
+        FirstReserveForAll
+        AllOfALotRefused
+        ReserveLimit
+        LimitOfReducedLot
+        AboveLotByTotals
+        AboveLotOfFirstLot
+        AboveLotNotOfLastLot
+        AboveLotLeavesNothing
+        AboveLotWithLot
+        AboveLotBeforeCounts
+        AboveLotBeforeMissingBytes
+        AboveLotBeforeBytesAfter
+        AboveLotBeforeLimit
+        AboveLotBeforeCallLimit
+        AboveLotBesideLotLimit;
+
+        RUNS =>
+        ReserveNotTakenOff
+        ReserveTakenOffTwice
+        ReserveTakenOffCalls
+        ReserveCountedAsLeft
+        AboveLotAfterShortBuffer;
+
+        &["run_order"] =>
+        AboveLotBeforeOrder;
+
+        FINDING =>
+        AboveLotAfterNoOrder;
+
+        &["find_and_run_idle"] =>
+        TotalsWithReserves
+        IdleAmountWithReserves
+        AboveLotAfterTotals
+        AboveLotAfterNoIdleCall;
+
+        &["find_and_run_panel"] =>
+        PanelAmountsOfVersion1Alone
+        ReserveNotTakenOffOnPanel;
+
+        &["place"] =>
+        AmountsCutAt264
+        AmountsCutAt391;
     }
 }

@@ -1,7 +1,7 @@
 """The collateral placer: bond lots go to margin calls, as many units as can be placed, and at the least cost where everything can be met.
 
-Simplest call: `place(costs, lots, calls)`; with stock to spare, `idle=True` makes the cheapest choice of what stays in the box. The others
-work on the files of document 01, over any bytes-like object.
+Simplest call: `place(costs, lots, calls)`; with stock to spare, `idle=True` makes the cheapest choice of what stays in the box, and
+`reserves` are what the desk holds back of each lot. The others work on the files of document 01, over any bytes-like object.
 
 Proved: the library behind every call, its replies and what it writes to each buffer.
 Trusted: this package, ctypes, the declaration of the C interface, the C compiler.
@@ -30,7 +30,7 @@ from .entry_points import (
     run_order,
 )
 from .files import amounts_bytes, book_bytes, order_bytes
-from .lists import amounts_lists, book_costs, order_pairs
+from .lists import Amounts, amounts_lists, book_costs, order_pairs
 from .placing import Placing, Verdict
 from .refused import Cause, Refused
 
@@ -41,6 +41,7 @@ __all__ = [
     "ORDER_MAX",
     "PANEL_FLOW_MAX",
     "PANEL_SIDE_MAX",
+    "Amounts",
     "Cause",
     "Counts",
     "Placing",

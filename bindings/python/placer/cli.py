@@ -42,7 +42,8 @@ FILES are three CSV tables or two binary files:
   PAIRS LOTS CALLS   tables with the header lines lot,call,cost and lot,amount and call,amount;
                      a pair that is absent is not eligible; costs are whole hundredths of a cent
                      per unit, -1,000,000 to 1,000,000, below 0 for a rebate, amounts whole units,
-                     0 to 1,000,000,000
+                     0 to 1,000,000,000; lots may have a third column, lot,amount,reserve: what the
+                     desk holds back of each, at most its amount, 0 where the cell is empty
   BOOK AMOUNTS       a book (.clb) and an amounts file (.cla), as `placer encode` writes them
 One of the files may be -, standard input. Lots and calls are at most 32 each; a table with its
 header line alone has none.
@@ -167,7 +168,8 @@ def _encode(options: argparse.Namespace) -> int:
 
 
 def _dimacs_lines(problem: Problem) -> Iterator[str]:
-    costs, (lots, calls) = book_costs(problem.book), amounts_lists(problem.amounts)
+    costs, amounts = book_costs(problem.book), amounts_lists(problem.amounts)
+    lots, calls = amounts.reduced, amounts.calls
     yield "c cost in hundredths of a cent per unit"
     if sum(lots) != sum(calls):
         yield f"c totals differ: the lots have {sum(lots)} units, the calls ask for {sum(calls)}"
@@ -196,9 +198,14 @@ def _shown_order(data: bytes) -> str:
 
 
 def _shown_amounts(data: bytes) -> str:
-    lots, calls = amounts_lists(data)
-    rows = [[what, number, amount] for what, amounts in (("lot", lots), ("call", calls)) for number, amount in enumerate(amounts)]
-    return f"amounts: the lots have {sum(lots)} units, the calls ask for {sum(calls)}\n" + _text([["", "number", "amount"], *rows])
+    lots, calls, reserves = amounts_lists(data)
+    title = f"amounts: the lots have {sum(lots)} units"
+    rows: List[List[object]] = [["", "number", "amount"]]
+    rows += [[what, number, amount] for what, amounts in (("lot", lots), ("call", calls)) for number, amount in enumerate(amounts)]
+    if reserves is not None:
+        title += f", {sum(reserves)} of them reserved"
+        rows = [[*row, cell] for row, cell in zip(rows, ["reserve", *reserves, *"-" * len(calls)])]
+    return f"{title}, the calls ask for {sum(calls)}\n" + _text(rows)
 
 
 def _shown_flow(path: str, data: bytes, book: str) -> str:

@@ -103,7 +103,7 @@ def read_amounts(book: BytesLike, amounts: BytesLike) -> Counts:
         The counts of lots and calls.
 
     Raises:
-        Refused: the book's refusal; then 1, 2, 3, 15, 6, 8 or 16 of the amounts.
+        Refused: the book's refusal; then 1, 2, 3, 15, 6, 8, 16 or 21 of the amounts.
 
     Examples:
         >>> read_amounts(book_bytes([[1, 2], [3, 5]]), amounts_bytes([5, 4], [3, 6]))
@@ -256,14 +256,23 @@ def find_and_run_panel(book: BytesLike, amounts: BytesLike, flow: Optional[Writa
     return _placing("find_and_run_panel", flow, book, amounts)
 
 
-def place(costs: Costs, lots: Sequence[int], calls: Sequence[int], *, idle: bool = False, panel: bool = False) -> Placing:
+def place(
+    costs: Costs,
+    lots: Sequence[int],
+    calls: Sequence[int],
+    reserves: Optional[Sequence[int]] = None,
+    *,
+    idle: bool = False,
+    panel: bool = False,
+) -> Placing:
     """Place lots to calls.
 
     Args:
         costs: for each lot in turn the cost of each call, whole hundredths of a cent per unit, below 0 for a rebate; None where not
             eligible. Without calls each lot's row is empty.
-        lots: what each lot has, in whole units; empty if there are none yet.
+        lots: what each lot holds, in whole units; empty if there are none yet.
         calls: what each call asks for; likewise.
+        reserves: what the desk holds back of each lot, which is not placed and does not count as left; by default nothing.
         idle: whether to make, with stock to spare, the cheapest choice of what stays in the box, as `find_and_run_idle` does.
         panel: whether to keep to a ticket panel's limit, at most 8 lots and 8 calls, as `find_and_run_panel` does; not with `idle`.
 
@@ -272,9 +281,10 @@ def place(costs: Costs, lots: Sequence[int], calls: Sequence[int], *, idle: bool
 
     Raises:
         Refused: a limit of document 01 is passed, the counts differ (15), or no order exists (13): use a flow solver then. With `idle`
-            also 18 and 19, and 13 where the book alone may have an order. With `panel` also 20.
-        ValueError: the rows of costs differ in length, a number does not fit its field, or both `idle` and `panel` are asked for.
-        TypeError: a cost or an amount is no whole number.
+            also 18 and 19, and 13 where the book alone may have an order. With `panel` also 20, with `reserves` 21.
+        ValueError: the rows of costs differ in length, there are not as many reserves as lots, a number does not fit its field, or both
+            `idle` and `panel` are asked for.
+        TypeError: a cost, an amount or a reserve is no whole number.
 
     Examples:
         >>> place([[1, 2], [3, 5]], [5, 4], [3, 6])
@@ -289,11 +299,11 @@ def place(costs: Costs, lots: Sequence[int], calls: Sequence[int], *, idle: bool
         Placing(verdict=Verdict.FULL, units=9, cost=-14, flow=((0, 5), (3, 1)))
         >>> place([], [], [3, 6])
         Placing(verdict=Verdict.SHORT, units=0, cost=0, flow=())
-        >>> place([[], []], [5, 4], [])
-        Placing(verdict=Verdict.COVERED, units=0, cost=0, flow=((), ()))
+        >>> place([[1, 2], [3, 5]], [7, 4], [3, 6], reserves=[2, 0])
+        Placing(verdict=Verdict.FULL, units=9, cost=24, flow=((0, 5), (3, 1)))
     """
     if idle and panel:
         raise ValueError("a ticket panel's run has no idle call: choose `idle` or `panel`")
     run = find_and_run_idle if idle else find_and_run_panel if panel else find_and_run
     book = book_bytes(costs, None if len(costs) else len(calls))  # without rows the amounts tell how many calls there are
-    return run(book, amounts_bytes(lots, calls))
+    return run(book, amounts_bytes(lots, calls, reserves))

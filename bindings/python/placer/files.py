@@ -21,7 +21,8 @@ def words(numbers: Iterable[int], signed: bool = False) -> bytes:
     except struct.error:
         least = -(2**31) if signed else 0
         outside = next(number for number in whole if not least <= number < least + 2**32)
-        raise ValueError(f"{outside} is outside the limits: costs are -1,000,000 to 1,000,000, amounts 0 to 1,000,000,000") from None
+        limits = "costs are -1,000,000 to 1,000,000, amounts 0 to 1,000,000,000, reserves 0 to what the lot holds"
+        raise ValueError(f"{outside} is outside the limits: {limits}") from None
 
 
 def _small(numbers: Iterable[int]) -> bytes:
@@ -90,22 +91,30 @@ def order_bytes(pairs: Iterable[Tuple[int, int]]) -> bytes:
     return _opening(b"CLO", struct.pack("<H", len(flat) // 2)) + flat
 
 
-def amounts_bytes(lots: Sequence[int], calls: Sequence[int]) -> bytes:
-    """Make an amounts file.
+def amounts_bytes(lots: Sequence[int], calls: Sequence[int], reserves: Optional[Sequence[int]] = None) -> bytes:
+    """Make an amounts file: of version 2 with reserves, else of version 1.
 
     Args:
-        lots: what each lot has, in whole units.
+        lots: what each lot holds, in whole units.
         calls: what each call asks for.
+        reserves: what the desk holds back of each lot, up to all that it holds; by default the file has none, and nothing is held back.
 
     Returns:
         The bytes of the amounts.
 
     Raises:
-        ValueError: a number does not fit its field.
-        TypeError: an amount is no whole number.
+        ValueError: there are not as many reserves as lots, or a number does not fit its field.
+        TypeError: an amount or a reserve is no whole number.
 
     Examples:
         >>> amounts_bytes([5, 4], [3, 6]).hex(" ", 4)
         '434c41 01000202 05000000 04000000 03000000 06000000'
+        >>> amounts_bytes([7, 4], [3, 6], reserves=[2, 0]).hex(" ", 4)
+        '434c41 02000202 07000000 04000000 03000000 06000000 02000000 00000000'
     """
-    return _opening(b"CLA", _small([len(lots), len(calls)])) + words([*lots, *calls])
+    counts = _small([len(lots), len(calls)])
+    if reserves is None:
+        return _opening(b"CLA", counts) + words([*lots, *calls])
+    if len(reserves) != len(lots):
+        raise ValueError(f"{len(reserves)} reserves for {len(lots)} lots")
+    return _opening(b"CLA", counts, 2) + words([*lots, *calls, *reserves])

@@ -3,7 +3,7 @@
 from __future__ import annotations
 
 import struct
-from typing import List, Optional, Tuple
+from typing import Collection, List, NamedTuple, Optional, Tuple
 
 from ._library import BytesLike
 from .entry_points import read_book
@@ -15,14 +15,14 @@ def numbers(data: bytes, signed: bool = False) -> List[int]:
     return list(struct.unpack(f"<{len(data) // 4}{'i' if signed else 'I'}", data))
 
 
-def _opened(data: BytesLike, mark: bytes) -> bytes:
-    """Return the bytes of a file that opens with a mark and version 1."""
+def _opened(data: BytesLike, mark: bytes, versions: Collection[int] = (1,)) -> bytes:
+    """Return the bytes of a file that opens with a mark and one of the versions."""
     file = memoryview(data).tobytes()
     if len(file) < 7:
         raise Refused(Cause.UNDER_SEVEN)
     if file[:3] != mark:
         raise Refused(Cause.MARK_DIFFERS)
-    if file[3:5] != b"\x01\x00":
+    if int.from_bytes(file[3:5], "little") not in versions:
         raise Refused(Cause.VERSION_NOT_ONE)
     return file
 
@@ -76,8 +76,30 @@ def order_pairs(order: BytesLike) -> List[Tuple[int, int]]:
     return list(zip(flat[::2], flat[1::2]))
 
 
-def amounts_lists(amounts: BytesLike) -> Tuple[List[int], List[int]]:
-    """Return what the lots have and what the calls ask for, held against no book.
+class Amounts(NamedTuple):
+    """What an amounts file holds, in the order of `amounts_bytes`.
+
+    Attributes:
+        lots: what each lot holds, with what is reserved of it.
+        calls: what each call asks for.
+        reserves: what the desk holds back of each lot; None if the file is of version 1.
+    """
+
+    lots: List[int]
+    calls: List[int]
+    reserves: Optional[List[int]]
+
+    @property
+    def reduced(self) -> List[int]:
+        """The lots' amounts in every run: what each holds less its reserve. Refused by 21 where a reserve is above that."""
+        reduced = [lot - reserve for lot, reserve in zip(self.lots, self.reserves or [0] * len(self.lots))]
+        if any(amount < 0 for amount in reduced):
+            raise Refused(Cause.RESERVE_EXCEEDS_LOT)
+        return reduced
+
+
+def amounts_lists(amounts: BytesLike) -> Amounts:
+    """Return what the lots hold, what the calls ask for, and the reserves, held against no book.
 
     Raises:
         Refused: 1, 2, 3, 6 or 8.
@@ -85,8 +107,12 @@ def amounts_lists(amounts: BytesLike) -> Tuple[List[int], List[int]]:
     Examples:
         >>> from placer import amounts_bytes
         >>> amounts_lists(amounts_bytes([5, 4], [3, 6]))
-        ([5, 4], [3, 6])
+        Amounts(lots=[5, 4], calls=[3, 6], reserves=None)
+        >>> amounts = amounts_lists(amounts_bytes([7, 4], [3, 6], reserves=[2, 0]))
+        >>> amounts, amounts.reduced
+        (Amounts(lots=[7, 4], calls=[3, 6], reserves=[2, 0]), [5, 4])
     """
-    file = _opened(amounts, b"CLA")
-    both = numbers(_fields(file, 4 * (file[5] + file[6])))
-    return both[: file[5]], both[file[5] :]
+    file = _opened(amounts, b"CLA", (1, 2))
+    lots, both = file[5], file[5] + file[6]
+    fields = numbers(_fields(file, 4 * (both + lots * (file[3] == 2))))
+    return Amounts(fields[:lots], fields[lots:both], fields[both:] if file[3] == 2 else None)

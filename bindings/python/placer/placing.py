@@ -8,7 +8,7 @@ from typing import Tuple
 
 
 class Verdict(enum.IntEnum):
-    """What a run met, by the numbers of the C header.
+    """What a run met, by the numbers of the C header. Reserved units of a lot do not count as left.
 
     Attributes:
         FULL: nothing is left in any lot or call; the cost is the least of all allocations that meet everything.

@@ -29,13 +29,14 @@ class Cause(enum.IntEnum):
     CALLS_EXCEED_LOTS = 18
     NO_IDLE_CALL = 19
     ABOVE_EIGHT = 20
+    RESERVE_EXCEEDS_LOT = 21
 
 
 # A sentence has one gap for each value that the table returns.
 _SENTENCES = {
     Cause.UNDER_SEVEN: "the file has under 7 bytes",
     Cause.MARK_DIFFERS: "the file does not open with its mark (a book with CLB, an order with CLO, amounts with CLA)",
-    Cause.VERSION_NOT_ONE: "the file's version is not 1 (of a book: neither 1 nor 2)",
+    Cause.VERSION_NOT_ONE: "the file's version is not 1 (of a book or amounts: neither 1 nor 2)",
     Cause.COUNT_OUTSIDE: "the book's count of lots or calls is above 32",
     Cause.BIT_OUTSIDE: "lot {} is marked eligible for a call that the book does not have",
     Cause.ENDS_EARLY: "the file ends before its last field",
@@ -50,9 +51,10 @@ _SENTENCES = {
     Cause.COUNTS_DIFFER: "the amounts' count of lots or calls differs from the book's",
     Cause.AMOUNT_TOO_HIGH: "an amount is above 1,000,000,000",
     Cause.BUFFER_TOO_SHORT: "the lent buffer is too short",
-    Cause.CALLS_EXCEED_LOTS: "the calls ask for more units than the lots have, so that none can stay idle",
+    Cause.CALLS_EXCEED_LOTS: "the calls ask for more units than the lots have, less their reserves, so that none can stay idle",
     Cause.NO_IDLE_CALL: "the book already has 32 calls, and the idle call would be one more",
     Cause.ABOVE_EIGHT: "the book's count of lots or calls is above 8, the most that a ticket panel shows",
+    Cause.RESERVE_EXCEEDS_LOT: "a reserve is above what its lot holds",
 }
 
 
@@ -60,7 +62,7 @@ class Refused(ValueError):
     """An input was refused; every lent buffer is as it was.
 
     Attributes:
-        number: 1 to 20, as in document 01.
+        number: 1 to 21, as in document 01.
         cause: the same as a `Cause`.
         values: the table's values in its order, as (lot,), (lot, call), (place,) or (i, j, k, l); often none.
 

@@ -59,28 +59,37 @@ def contents(path: str) -> bytes:
         raise BadInput(path, None, str(error.strerror)) from None
 
 
-def _rows(path: str, header: str) -> Iterator[Tuple[int, List[str]]]:
-    """Yield the line and the fields of each row after the header line; blank lines are passed over."""
+def _lines(path: str) -> Iterator[Tuple[int, List[str]]]:
+    """Yield the line and the fields of the header line, and then of each row, which has as many; blank rows are passed over."""
     try:
         text = contents(path).decode("utf-8-sig")
     except UnicodeDecodeError:
         raise BadInput(path, None, "is not UTF-8 text") from None
     reader = csv.reader(io.StringIO(text, newline=""), strict=True)
-    expected = header.split(",")
     try:
-        if next(reader, None) != expected:
-            raise BadInput(path, 1, f"the header line must be {header}")
+        header = next(reader, [])
+        yield 1, header
         for fields in reader:
-            if fields and len(fields) != len(expected):
-                raise BadInput(path, reader.line_num, f"{len(fields)} fields, not {len(expected)}")
+            if fields and len(fields) != len(header):
+                raise BadInput(path, reader.line_num, f"{len(fields)} fields, not {len(header)}")
             if fields:
                 yield reader.line_num, fields
     except csv.Error as error:
         raise BadInput(path, reader.line_num, str(error)) from None
 
 
-def _whole(path: str, line: int, what: str, text: str, most: int, number: Cause, signed: bool = False) -> int:
-    """Return a whole number of 0 to `most`; if signed, of as far below 0 too."""
+def _table(path: str, *headers: str) -> Tuple[str, Iterator[Tuple[int, List[str]]]]:
+    """Return which of these header lines a table has, and the line and the fields of each row."""
+    rows = _lines(path)
+    fields = next(rows)[1]
+    for header in headers:
+        if fields == header.split(","):
+            return header, rows
+    raise BadInput(path, 1, f"the header line must be {' or '.join(headers)}")
+
+
+def _whole(path: str, line: int, what: str, text: str, most: int, number: Cause, signed: bool = False, of: str = "") -> int:
+    """Return a whole number of 0 to `most`, of which `of` says what it is; if signed, of as far below 0 too."""
     whole = text.strip()
     below = signed and whole.startswith("-")
     digits = whole[1:] if below else whole
@@ -88,28 +97,36 @@ def _whole(path: str, line: int, what: str, text: str, most: int, number: Cause,
         raise BadInput(path, line, f"the {what} {text!r} is not a whole number")
     digits = digits.lstrip("0") or "0"  # `int` takes no more than some thousands of digits
     if len(digits) > len(str(most)) or int(digits) > most:
-        passed = f"below -{most:,}" if below else f"above {most:,}"
+        passed = f"below -{most:,}" if below else f"above {most:,}{of}"
         raise BadInput(path, line, f"the {what} {whole} is {passed} (refusal {number.value})")
     return -int(digits) if below else int(digits)
 
 
-def _amounts(path: str, what: str) -> Dict[str, int]:
-    """Return the amount of each lot or call by its name, in order of first appearance; none if the table is its header line alone."""
+def _amounts(path: str, what: str, *headers: str) -> Tuple[Dict[str, int], Optional[List[int]]]:
+    """Return the amount of each lot or call by its name, in order of first appearance, and the reserves, None without such a column.
+
+    A table that is its header line alone has no lots or calls.
+    """
+    header, rows = _table(path, f"{what},amount", *headers)
     amounts: Dict[str, int] = {}
-    for line, (name, amount) in _rows(path, f"{what},amount"):
+    reserves: List[int] = []
+    for line, (name, amount, *reserve) in rows:
         if name in amounts:
             raise BadInput(path, line, f"the {what} {name!r} stands here a second time")
         if len(amounts) == MOST:
             raise BadInput(path, line, f"more than {MOST} {what}s (refusal {Cause.COUNT_OUTSIDE.value})")
-        amounts[name] = _whole(path, line, "amount", amount, AMOUNT_MOST, Cause.AMOUNT_TOO_HIGH)
-    return amounts
+        has = amounts[name] = _whole(path, line, "amount", amount, AMOUNT_MOST, Cause.AMOUNT_TOO_HIGH)
+        for text in reserve:  # one, or none without such a column
+            whole, of = text if text.strip() else "0", f", what {name!r} holds"
+            reserves.append(_whole(path, line, "reserve", whole, has, Cause.RESERVE_EXCEEDS_LOT, of=of))
+    return amounts, reserves if header in headers else None
 
 
 def _from_tables(pairs: str, lots: str, calls: str) -> Problem:
-    """Return the problem of the three tables; a pair that is absent is not eligible."""
-    has, asks = _amounts(lots, "lot"), _amounts(calls, "call")
+    """Return the problem of the three tables; a pair that is absent is not eligible, and a reserve that is left out is 0."""
+    (has, reserves), (asks, _) = _amounts(lots, "lot", "lot,amount,reserve"), _amounts(calls, "call")
     costs: Dict[Tuple[str, str], int] = {}
-    for line, (lot, call, cost) in _rows(pairs, "lot,call,cost"):
+    for line, (lot, call, cost) in _table(pairs, "lot,call,cost")[1]:
         for what, name, path, names in (("lot", lot, lots, has), ("call", call, calls, asks)):
             if name not in names:
                 raise BadInput(pairs, line, f"the {what} {name!r} is not in {path}")
@@ -117,7 +134,7 @@ def _from_tables(pairs: str, lots: str, calls: str) -> Problem:
             raise BadInput(pairs, line, f"the pair {lot!r}, {call!r} stands here a second time")
         costs[lot, call] = _whole(pairs, line, "cost", cost, COST_MOST, Cause.COST_TOO_HIGH, signed=True)
     book = book_bytes([[costs.get((lot, call)) for call in asks] for lot in has], len(asks))
-    return Problem(list(has), list(asks), book, amounts_bytes(list(has.values()), list(asks.values())))
+    return Problem(list(has), list(asks), book, amounts_bytes(list(has.values()), list(asks.values()), reserves))
 
 
 def _from_files(book: str, amounts: str) -> Problem:

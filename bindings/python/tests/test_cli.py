@@ -1,24 +1,16 @@
 """The command: its output, messages and exit status."""
 
-import contextlib
-import io
 import os
 import random
 import shutil
 import subprocess
 import sys
-import tempfile
 import unittest
 from pathlib import Path
-from unittest import mock
 
 import placer
-from placer.cli import main
-from support import AMOUNTS, BOOK, NO_ORDER, NO_ORDER_IDLE, ORDER, REBATES, SPARE, Case
-
-ROOT = Path(placer.__file__).resolve().parents[3]
-TABLES = ["pairs.csv", "lots.csv", "calls.csv"]
-PAIRS, LOTS, CALLS = ((ROOT / "examples" / "csv" / name).read_text() for name in TABLES)
+from command import CALLS, LOTS, PAIRS, ROOT, TABLES, CommandCase
+from support import AMOUNTS, BOOK, NO_ORDER, NO_ORDER_IDLE, ORDER, REBATES, SPARE
 
 # The table that is wrong, its text, and the message.
 BAD = [
@@ -40,7 +32,7 @@ BAD = [
     ("lots.csv", LOTS.replace(",5", ",-5"), "lots.csv:2: the amount '-5' is not a whole number"),
     ("lots.csv", LOTS.replace(",5", ",1000000001"), "lots.csv:2: the amount 1000000001 is above 1,000,000,000 (refusal 16)"),
     ("lots.csv", "lot,amount\n", "pairs.csv:2: the lot 'Bund 2031' is not in lots.csv"),
-    ("lots.csv", "", "lots.csv:1: the header line must be lot,amount"),
+    ("lots.csv", "", "lots.csv:1: the header line must be lot,amount or lot,amount,reserve"),
     ("calls.csv", "call,amount\n", "pairs.csv:2: the call 'Clearing A' is not in calls.csv"),
     ("calls.csv", "\n", "calls.csv:1: the header line must be call,amount"),
     ("calls.csv", "call,amount\n" + "".join(f"{c},0\n" for c in range(33)), "calls.csv:34: more than 32 calls (refusal 4)"),
@@ -49,35 +41,8 @@ BAD = [
 ]
 
 
-class Command(Case):
-    """Each subcommand, in a folder that holds the tables of F1."""
-
-    def setUp(self):
-        """Write the tables, and go there."""
-        folder = tempfile.TemporaryDirectory()
-        self.addCleanup(folder.cleanup)
-        self.addCleanup(os.chdir, os.getcwd())
-        os.chdir(folder.name)
-        self.write(dict(zip(TABLES, (PAIRS, LOTS, CALLS))))
-
-    def write(self, files):
-        """Write files of text or bytes; None removes one."""
-        for name, data in files.items():
-            if data is None:
-                os.remove(name)
-            else:
-                Path(name).write_bytes(data if isinstance(data, bytes) else data.encode())
-
-    def run_it(self, *arguments, stdin=b""):
-        """Return the status, the output and the messages."""
-        out, err = io.StringIO(), io.StringIO()
-        with contextlib.redirect_stdout(out), contextlib.redirect_stderr(err):
-            with mock.patch("sys.stdin", io.TextIOWrapper(io.BytesIO(stdin))):
-                try:
-                    status = main(list(arguments))
-                except SystemExit as ended:
-                    status = ended.code
-        return status, out.getvalue(), err.getvalue()
+class Command(CommandCase):
+    """Each subcommand."""
 
     def test_place(self):
         """By an order, to a file, from standard input and from binary files."""
@@ -246,7 +211,7 @@ class Command(Case):
             ("zeros.cla: refused 15:", ["place", "book.clb", "zeros.cla"]),
             ("wrong.clo: refused 12:", ["place", "book.clb", "amounts.cla", "--order", "wrong.clo"]),
             ("wrong.clo: refused 2:", ["check", "wrong.clo"]),
-            ("third.clb: refused 3: the file's version is not 1 (of a book: neither", ["check", "third.clb"]),
+            ("third.clb: refused 3: the file's version is not 1 (of a book or amounts: neither", ["check", "third.clb"]),
             ("amounts.cla: refused 15:", ["check", "none.clb", "amounts.cla"]),
             ("pairs.csv: neither a book", ["show", "pairs.csv"]),
             ("pairs.csv: a flow of this book has 16 bytes", ["show", "pairs.csv", "--book", "book.clb"]),

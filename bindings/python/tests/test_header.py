@@ -23,6 +23,7 @@ class Header(unittest.TestCase):
         bounds = {name: int(bound) for name, bound in re.findall(r"#define PLACER_(\w+) \(?(-?\d+)", text)}
         self.assertEqual((placer.ORDER_MAX, placer.FLOW_MAX), (bounds["ORDER_MAX"], bounds["FLOW_MAX"]))
         self.assertEqual((-COST_MOST, COST_MOST), (bounds["COST_MIN"], bounds["COST_MAX"]))
+        self.assertEqual(len(placer.amounts_bytes(*[[0] * 32] * 3)), bounds["AMOUNTS_MAX"])
         self.assertIn(f'PLACER_VERSION "{placer.__version__}"', text)
 
 

@@ -23,7 +23,7 @@ def desks():
 
 def verdict(amounts):
     """Return the verdict by the sums."""
-    lots, calls = amounts_lists(amounts)
+    lots, calls, _ = amounts_lists(amounts)
     return Verdict.SHORT if sum(calls) else Verdict.COVERED if sum(lots) else Verdict.FULL
 
 

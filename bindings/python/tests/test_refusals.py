@@ -63,11 +63,13 @@ AMOUNT_FILES = [
     (1, (), b"CLA"),
     (2, (), ORDER),
     (3, (), changed(AMOUNTS, 3, 0)),
-    (3, (), changed(AMOUNTS, 3, 2)),
+    (3, (), changed(AMOUNTS, 3, 3)),
+    (3, (), changed(AMOUNTS, 3, 2, 1)),
     (15, (), amounts_bytes([5], [3, 6])),
     (6, (), AMOUNTS[:-1]),
     (8, (), AMOUNTS + b"\0"),
     (16, (), amounts_bytes([5, 4], [3, 1_000_000_001])),
+    (21, (), amounts_bytes([5, 4], [3, 6], [0, 5])),
 ]
 
 
@@ -157,8 +159,8 @@ class Refusals(Case):
             self.assertIsInstance(error, ValueError)
             self.assertIs(error.cause, cause)
             self.assertRegex(str(error), rf"^refused {cause.value}: \w")
-        self.assertEqual([len(Refused(cause, (0,) * 4).values) for cause in Cause], [0, 0, 0, 0, 1, 0, 2, 0, 1, 1, 4, 4] + [0] * 8)
-        self.assertRaises(ValueError, Refused, 21)
+        self.assertEqual([len(Refused(cause, (0,) * 4).values) for cause in Cause], [0, 0, 0, 0, 1, 0, 2, 0, 1, 1, 4, 4] + [0] * 9)
+        self.assertRaises(ValueError, Refused, 22)
 
 
 if __name__ == "__main__":

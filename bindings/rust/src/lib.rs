@@ -6,7 +6,8 @@
 //! less. Both hold whatever the *amounts*. With stock to spare [`find_and_run_idle`] makes the cheapest choice of what stays in the box.
 //!
 //! The three files are byte slices, laid out as `include/placer.h` says; a book of version 2 may have costs below 0, which are rebates. A
-//! desk may have no lots yet, or no calls: its book is read like any other, and its order has no pairs.
+//! desk may have no lots yet, or no calls: its book is read like any other, and its order has no pairs. Amounts of version 2 have reserves:
+//! a lot's amount is then what it holds less its reserve, in every run and for idle stock too.
 //!
 //! Every function takes any bytes: it accepts, or refuses by the first [`Refusal`] in the published sequence. A buffer is written only
 //! where the call accepts. Nothing is allocated or kept, nothing panics, and calls may run in any number of threads. A call takes at most
@@ -41,9 +42,11 @@ mod refusal;
 mod sys;
 #[cfg(test)]
 mod tests;
+mod verdict;
 
 pub use refusal::Refusal;
 use sys::Reply;
+pub use verdict::{Placed, Verdict};
 
 /// The most lots, and the most calls, of a book.
 pub const SIDE_MAX: usize = 32;
@@ -51,8 +54,8 @@ pub const SIDE_MAX: usize = 32;
 pub const BOOK_MAX: usize = 4231;
 /// The length of the longest order, in bytes: a buffer of this length is long enough for every order.
 pub const ORDER_MAX: usize = 2055;
-/// The length of the largest amounts file, in bytes.
-pub const AMOUNTS_MAX: usize = 263;
+/// The length of the largest amounts file, in bytes: one of version 2.
+pub const AMOUNTS_MAX: usize = 391;
 /// The entries of the largest flow: a buffer of this many is long enough for every book.
 pub const FLOW_MAX: usize = 1024;
 /// The most lots, and the most calls, that [`find_and_run_panel`] takes.
@@ -67,45 +70,6 @@ pub struct Size {
     pub lots: usize,
     /// Calls, 0 to 32.
     pub calls: usize,
-}
-
-/// Whether a run met everything, or every call. Whatever the verdict, no other allocation places more units.
-///
-/// ```
-/// use placer::{find_and_run, Verdict};
-///
-/// // Two lots and two calls, the last pair not eligible, costs 0; lots of 2 and 0 units, calls for 1 and 0 (example F8).
-/// let book = b"CLB\x01\0\x02\x02\x03\0\0\0\0\0\0\0\0\0\0\0\x01\0\0\0\0\0\0\0";
-/// let amounts = b"CLA\x01\0\x02\x02\x02\0\0\0\0\0\0\0\x01\0\0\0\0\0\0\0";
-/// let placed = find_and_run(book, amounts, &mut [0; 4])?;
-/// assert_eq!((placed.verdict, placed.units, placed.cost), (Verdict::Covered, 1, 0));
-///
-/// // Lots of 0 and 1 units, calls for 0 and 1: a call lacks a unit, and a lot that is not eligible for it has one left.
-/// let amounts = b"CLA\x01\0\x02\x02\0\0\0\0\x01\0\0\0\0\0\0\0\x01\0\0\0";
-/// assert_eq!(find_and_run(book, amounts, &mut [0; 4])?.verdict, Verdict::Short);
-/// # Ok::<(), placer::Refusal>(())
-/// ```
-#[derive(Clone, Copy, Debug, PartialEq, Eq, Hash)]
-pub enum Verdict {
-    /// Nothing is left in any lot or call. No other allocation that meets everything costs less.
-    Full,
-    /// Every call is met, and some lot has units left. Another allocation that meets every call may cost less, but not where
-    /// [`find_and_run_idle`] says this.
-    Covered,
-    /// A call lacks units. No allocation meets every call; one that places as many units may cost less.
-    Short,
-}
-
-/// What a run comes to: the sums over the flow written.
-#[derive(Clone, Copy, Debug, PartialEq, Eq, Hash)]
-#[must_use]
-pub struct Placed {
-    /// Whether everything, or every call, was met.
-    pub verdict: Verdict,
-    /// Units placed.
-    pub units: u64,
-    /// Their cost, in hundredths of a cent. It is below 0 only with a book of version 2.
-    pub cost: i64,
 }
 
 fn accepted<T>(reply: Reply, told: impl FnOnce([usize; 2]) -> T) -> Result<T, Refusal> {
@@ -183,7 +147,17 @@ pub fn pair_cost(book: &[u8], lot: usize, call: usize) -> Result<Option<i64>, Re
 /// Reads amounts with their book: the counts.
 ///
 /// # Errors
-/// Refusals 1 to 8 of the book; 1, 2, 3, 15, 6, 8, 16 of the amounts.
+/// Refusals 1 to 8 of the book; 1, 2, 3, 15, 6, 8, 16, 21 of the amounts.
+///
+/// ```
+/// use placer::{read_amounts, Refusal, Size};
+///
+/// // A lot that holds 5 units and no calls; in version 2 its reserve follows, up to all of it.
+/// let book = b"CLB\x01\0\x01\0\0\0\0\0";
+/// assert_eq!(read_amounts(book, b"CLA\x01\0\x01\0\x05\0\0\0"), Ok(Size { lots: 1, calls: 0 }));
+/// assert_eq!(read_amounts(book, b"CLA\x02\0\x01\0\x05\0\0\0\x05\0\0\0"), Ok(Size { lots: 1, calls: 0 }));
+/// assert_eq!(read_amounts(book, b"CLA\x02\0\x01\0\x05\0\0\0\x06\0\0\0"), Err(Refusal::ReserveExceedsLot));
+/// ```
 pub fn read_amounts(book: &[u8], amounts: &[u8]) -> Result<Size, Refusal> {
     size(unsafe { sys::placer_read_amounts(book.as_ptr(), book.len(), amounts.as_ptr(), amounts.len()) })
 }
@@ -248,6 +222,13 @@ pub fn run_order(book: &[u8], order: &[u8], amounts: &[u8], flow: &mut [u32]) ->
 /// // No lots yet, and a call for 5.
 /// let placed = find_and_run(b"CLB\x01\0\0\x01", b"CLA\x01\0\0\x01\x05\0\0\0", &mut [])?;
 /// assert_eq!((placed.verdict, placed.units, placed.cost), (Verdict::Short, 0, 0));
+///
+/// // Example F1 with a lot 0 of 7 units, 2 of them reserved by the desk (version 2): these are not placed, and nothing is left.
+/// let book = b"CLB\x01\0\x02\x02\x03\0\0\0\x01\0\0\0\x02\0\0\0\x03\0\0\0\x03\0\0\0\x05\0\0\0";
+/// let amounts = b"CLA\x02\0\x02\x02\x07\0\0\0\x04\0\0\0\x03\0\0\0\x06\0\0\0\x02\0\0\0\0\0\0\0";
+/// let mut flow = [0; 4];
+/// let placed = find_and_run(book, amounts, &mut flow)?;
+/// assert_eq!((placed.verdict, placed.units, placed.cost, flow), (Verdict::Full, 9, 24, [0, 5, 3, 1]));
 /// # Ok::<(), placer::Refusal>(())
 /// ```
 pub fn find_and_run(book: &[u8], amounts: &[u8], flow: &mut [u32]) -> Result<Placed, Refusal> {

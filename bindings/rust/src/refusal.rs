@@ -11,7 +11,7 @@ pub enum Refusal {
     UnderSeven,
     /// 2: a file does not open with its mark.
     MarkDiffers,
-    /// 3: a file's version is not 1; of a book, neither 1 nor 2.
+    /// 3: a file's version is not 1; of a book or amounts, neither 1 nor 2.
     VersionNotOne,
     /// 4: the book's count of lots or calls is above 32.
     CountOutside,
@@ -37,16 +37,18 @@ pub enum Refusal {
     PairMissing,
     /// 15: the amounts' counts differ from the book's.
     CountsDiffer,
-    /// 16: an amount is above 1,000,000,000.
+    /// 16: an amount of a lot or call, as the file holds it, is above 1,000,000,000.
     AmountTooHigh,
     /// 17: the buffer is too short.
     BufferTooShort,
-    /// 18: with an idle call, the calls' total exceeds the lots' total.
+    /// 18: with an idle call, the calls' total exceeds the lots' total, less their reserves.
     CallsExceedLots,
     /// 19: with an idle call, the book already has 32 calls.
     NoIdleCall,
     /// 20: for a ticket panel, the book's count of lots or calls is above 8.
     AboveEight,
+    /// 21: a reserve is above what its lot holds.
+    ReserveExceedsLot,
 }
 
 impl Refusal {
@@ -72,7 +74,8 @@ impl Refusal {
             17 => Refusal::BufferTooShort,
             18 => Refusal::CallsExceedLots,
             19 => Refusal::NoIdleCall,
-            _ => Refusal::AboveEight, // 20 is the only number left
+            20 => Refusal::AboveEight,
+            _ => Refusal::ReserveExceedsLot, // 21 is the only number left
         }
     }
 
@@ -99,6 +102,7 @@ impl Refusal {
             Refusal::CallsExceedLots => 18,
             Refusal::NoIdleCall => 19,
             Refusal::AboveEight => 20,
+            Refusal::ReserveExceedsLot => 21,
         }
     }
 }
@@ -108,7 +112,7 @@ impl fmt::Display for Refusal {
         match self {
             Refusal::UnderSeven => write!(f, "a file is under 7 bytes"),
             Refusal::MarkDiffers => write!(f, "a file does not open with its mark"),
-            Refusal::VersionNotOne => write!(f, "a file's version is not 1 (of a book: neither 1 nor 2)"),
+            Refusal::VersionNotOne => write!(f, "a file's version is not 1 (of a book or amounts: neither 1 nor 2)"),
             Refusal::CountOutside => write!(f, "the book's count of lots or calls is above 32"),
             Refusal::BitOutside { lot } => write!(f, "lot {lot} has an eligibility bit for a call that the book does not have"),
             Refusal::EndsEarly => write!(f, "a file ends before its last field"),
@@ -129,9 +133,10 @@ impl fmt::Display for Refusal {
             Refusal::CountsDiffer => write!(f, "the amounts' counts differ from the book's"),
             Refusal::AmountTooHigh => write!(f, "an amount is above 1,000,000,000"),
             Refusal::BufferTooShort => write!(f, "the buffer is too short"),
-            Refusal::CallsExceedLots => write!(f, "the calls' total exceeds the lots' total"),
+            Refusal::CallsExceedLots => write!(f, "the calls' total exceeds the lots' total, less their reserves"),
             Refusal::NoIdleCall => write!(f, "the book already has 32 calls, and the idle call would be one more"),
             Refusal::AboveEight => write!(f, "the book's count of lots or calls is above 8, the most that a ticket panel shows"),
+            Refusal::ReserveExceedsLot => write!(f, "a reserve is above what its lot holds"),
         }
     }
 }

@@ -1,6 +1,8 @@
 //! Verdicts, refusals, and the cases of the requests, through every entry point.
 use super::*;
 
+mod reserves;
+
 #[test]
 fn verdicts_by_number() {
     let told = |verdict| placed(Reply { number: 0, verdict, values: [0; 4] }).unwrap().verdict;
@@ -11,7 +13,7 @@ fn verdicts_by_number() {
 
 #[test]
 fn refusals_by_number() {
-    for number in 1..=20 {
+    for number in 1..=21 {
         assert_eq!(Refusal::of(Reply { number, verdict: 0, values: [0; 4] }).number(), number);
     }
 }

@@ -1,5 +1,7 @@
-// Reads F13 and F14 of document 01, damaged books and amounts, books of version 2 (document 02, request 4), and books and amounts with no lots
-// or no calls (request 5), and writes what each reading answers: one line a case, with the name of the example or the label of docs/TRAPS.md.
+// Reads F13 and F14 of document 01, damaged books and amounts, books of version 2 (document 02, request 4), books and amounts with no lots or no
+// calls (request 5), and amounts of version 2 (request 7), and writes what each reading answers: one line a case, with the name of the example
+// or the label of docs/TRAPS.md.
+mod reserves;
 mod zero_counts;
 
 use book::Cost;
@@ -263,8 +265,6 @@ fn versions() {
     of_version(87, 2, 0);
     of_version(87, 3, 0);
     of_version(87, 258, 0);
-    amounts(87, &REBATE, 1, 3, 23, 0, 0);
-    case(87, amounts::read_amounts(&REBATE, b"CLA\x02\x00\x01\x03"));
 }
 
 fn rebates() {
@@ -287,4 +287,9 @@ fn main() {
     zero_counts::words();
     zero_counts::lots_and_pairs();
     zero_counts::amounts_files();
+    reserves::lengths();
+    reserves::largest();
+    reserves::above_lots();
+    reserves::versions();
+    reserves::zero_counts();
 }

@@ -2,13 +2,13 @@
 use specification::Call;
 use specification::Lot;
 
-const NOTHING: [u8; 7] = *b"CLB\x01\x00\x00\x00";
+pub const NOTHING: [u8; 7] = *b"CLB\x01\x00\x00\x00";
 
 // 0 by 2, in version 2.
-const NO_LOTS: [u8; 7] = *b"CLB\x02\x00\x00\x02";
+pub const NO_LOTS: [u8; 7] = *b"CLB\x02\x00\x00\x02";
 
 // 2 by 0; and with a bit in the word of lot 1.
-const NO_CALLS: [u8; 15] = *b"CLB\x01\x00\x02\x00\x00\x00\x00\x00\x00\x00\x00\x00";
+pub const NO_CALLS: [u8; 15] = *b"CLB\x01\x00\x02\x00\x00\x00\x00\x00\x00\x00\x00\x00";
 
 const A_BIT: [u8; 15] = *b"CLB\x01\x00\x02\x00\x00\x00\x00\x00\x01\x00\x00\x00";
 

@@ -144,10 +144,8 @@ pub const LOWEST_BOOK: [u8; 15] = *b"CLB\x02\0\x01\x01\x01\0\0\0\xc0\xbd\xf0\xff
 // F10's book in version 3
 pub const BOOK_3: [u8; 11] = *b"CLB\x03\0\x01\x01\0\0\0\0";
 
-// F1's order and amounts in version 2
+// F1's order in version 2
 pub const ORDER_2: [u8; 15] = *b"CLO\x02\0\x04\0\0\x01\0\0\x01\0\x01\x01";
-
-pub const AMOUNTS_2: [u8; 23] = *b"CLA\x02\0\x02\x02\x05\0\0\0\x04\0\0\0\x03\0\0\0\x06\0\0\0";
 
 // of one lot and up to 32 calls: the lot's amount, call 30 wants 2, and the others nothing; it ends after the call amounts
 pub fn wide_amounts(calls: u8, lot: u8) -> [u8; 139] {

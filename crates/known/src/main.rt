@@ -1,7 +1,8 @@
 // Document 01's known examples, F1 to F14, run through the entry points, a few more inputs to a run that tempt to another answer, runs with
-// an idle call (document 02, request 2), books with rebates (request 4), books with no lots or no calls (request 5), and the ticket panel's runs
-// (request 6).
+// an idle call (document 02, request 2), books with rebates (request 4), books with no lots or no calls (request 5), the ticket panel's runs
+// (request 6), and amounts with reserves (request 7).
 mod given;
+mod reserves;
 mod show;
 mod ticket_panel;
 mod zero_counts;
@@ -222,7 +223,7 @@ fn rebates() {
     );
 }
 
-// A book has version 1 or 2; an order and amounts have version 1, with a book of version 2 too.
+// A book has version 1 or 2; an order has version 1, with a book of version 2 too.
 fn versions() {
     show::counts(
         b"Version 3 of a book",
@@ -239,11 +240,6 @@ fn versions() {
         &given::REBATES_BOOK,
         &given::ORDER_2,
         &given::F1_AMOUNTS,
-    );
-    find_and_run(
-        b"Version 2 of amounts",
-        &given::REBATES_BOOK,
-        &given::AMOUNTS_2,
     );
 }
 
@@ -269,4 +265,8 @@ fn main() {
     ticket_panel::within_eight();
     ticket_panel::eight();
     ticket_panel::above_eight();
+    reserves::runs();
+    reserves::above_lots();
+    reserves::several_refusals();
+    reserves::versions();
 }

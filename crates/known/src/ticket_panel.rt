@@ -6,7 +6,7 @@ const EIGHT_AMOUNTS: [u8; 71] =
     *b"CLA\x01\0\x08\x08\x08\0\0\0\x07\0\0\0\x06\0\0\0\x05\0\0\0\x04\0\0\0\x03\0\0\0\x02\0\0\0\x01\0\0\0\x01\0\0\0\x02\0\0\0\x03\0\0\0\x04\0\0\0\x05\0\0\0\x06\0\0\0\x07\0\0\0\x08\0\0\0";
 
 // 9 by 1, costs 9 to 1
-const NINE_BOOK: [u8; 79] =
+pub const NINE_BOOK: [u8; 79] =
     *b"CLB\x01\0\x09\x01\x01\0\0\0\x09\0\0\0\x01\0\0\0\x08\0\0\0\x01\0\0\0\x07\0\0\0\x01\0\0\0\x06\0\0\0\x01\0\0\0\x05\0\0\0\x01\0\0\0\x04\0\0\0\x01\0\0\0\x03\0\0\0\x01\0\0\0\x02\0\0\0\x01\0\0\0\x01\0\0\0";
 
 // lots 1 each, call 9
@@ -62,18 +62,18 @@ fn with_rebate() -> [u8; 295] {
     book
 }
 
-fn find_and_run(label: &[u8], book: &[u8], amounts: &[u8], flow: &mut [u32]) {
+pub fn find_and_run(label: &[u8], book: &[u8], amounts: &[u8], flow: &mut [u32]) {
     let answer = placer::find_and_run(book, amounts, flow);
     super::show::placed(label, b"find_and_run", answer, flow);
 }
 
-fn find_and_run_panel(label: &[u8], book: &[u8], amounts: &[u8], flow: &mut [u32]) {
+pub fn find_and_run_panel(label: &[u8], book: &[u8], amounts: &[u8], flow: &mut [u32]) {
     let answer = placer::find_and_run_panel(book, amounts, flow);
     super::show::placed(label, b"find_and_run_panel", answer, flow);
 }
 
 // Both, with flows of five entries.
-fn in_five(label: &[u8], book: &[u8], amounts: &[u8]) {
+pub fn in_five(label: &[u8], book: &[u8], amounts: &[u8]) {
     find_and_run(label, book, amounts, &mut [7u32; 5]);
     find_and_run_panel(label, book, amounts, &mut [7u32; 5]);
 }

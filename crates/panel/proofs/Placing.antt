@@ -29,6 +29,7 @@ use Rattle.specification.specs.Book.{rowWord, bookCalls, rowAt, readBook, probl
 use Rattle.specification.specs.Amounts.{lotAmount, callAmount, readAmounts}
 use Rattle.specification.specs.Run.{allZero, outcome, flowOf}
 use Rattle.specification.specs.Find.{orderOr13, foundToRun, findAndRun, findAndRunFlow}
+use Rattle.specification.specs.Reserves.{WithinLots}
 use Rattle.specification.proofs.AmountsFiles.{book-of-amounts}
 use Rattle.specification.proofs.Flows.{length-flowOf}
 use Rattle.book.proofs.Bits.{bit-below}
@@ -39,7 +40,7 @@ use Rattle.slacks.proofs.Filled.{set-remains, stated-same, stated-lifts}
 use Rattle.run.specs.Run.{Holds, LoadedIn, replyOf}
 use Rattle.run.proofs.Grid.{flow-copied}
 use Rattle.run.proofs.Whole.{all-zero-same, shows-end}
-use Rattle.run.proofs.Supplied.{lots-are, calls-are, long-enough, lots-fit, loaded-holds}
+use Rattle.run.proofs.Supplied.{lots-are, calls-are, can-load, long-enough, lots-fit, loaded-holds}
 use Rattle.words.specs.Lefts.{isLeft}
 use Rattle.panel.specs.declared.Remaining.{Remaining}
 use Rattle.panel.specs.declared.search.Taken.{Taken}
@@ -91,6 +92,10 @@ module _ {book amounts flow : List ℕ} {n m : ℕ} (given : Supplied book amoun
 
   pub known : Read book n m
   known = counts-are book (sym reads)
+
+  -- what `remaining_of` asks
+  pub loadable : (n ≤ 8) × (m ≤ 8) × WithinLots (record { lots = n; calls = m }) amounts
+  loadable = (given .few-lots, given .few-calls, can-load book _ reads amounts (given .read) .2)
 
   pub within : Within book
   within = record {

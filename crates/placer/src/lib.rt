@@ -143,11 +143,11 @@ pub fn find_and_run_panel(book: &[u8], amounts: &[u8], flow: &mut [u32]) -> Plac
     find_and_run_within(book, amounts, flow)
 }
 
-// How many bytes of each file are read at most, 4,232 and 264: one more than the largest has, so that a longer one is refused. The largest
-// book has its opening and 32 rows of a word and 32 costs; the largest amounts have theirs and 64 amounts.
+// How many bytes of each file are read at most, 4,232 and 392: one more than the largest has, so that a longer one is refused. The largest
+// book has its opening and 32 rows of a word and 32 costs; the largest amounts have theirs, 64 amounts and 32 reserves.
 pub const BOOK_MOST: usize = 7 + 32 * (4 + 4 * 32) + 1;
 
-pub const AMOUNTS_MOST: usize = 7 + 4 * (32 + 32) + 1;
+pub const AMOUNTS_MOST: usize = 7 + 4 * (32 + 32 + 32) + 1;
 
 // The text that is printed of a book and its amounts, as far as they are read.
 pub fn printed_text(book: &[u8], amounts: &[u8]) -> Printed

@@ -1,5 +1,5 @@
 // The text that is printed of several books and amounts: each refusal that can come, nothing placed, a few lines, costs below zero, no lots or
-// no calls, and the most lines that a text can have.
+// no calls, reserves, the longest files, and the most lines that a text can have.
 
 // Prints a label, and then the text of two files.
 fn print(label: &[u8], book: &[u8], amounts: &[u8]) {
@@ -55,8 +55,8 @@ fn amounts_openings() {
         b"CLB\x01\0\x01\x01\x01\0\0\0\x01\0\0\0",
     );
     print_amounts(
-        b"amounts of version 2",
-        b"CLA\x02\0\x01\x01\x01\0\0\0\x01\0\0\0",
+        b"amounts of version 3",
+        b"CLA\x03\0\x01\x01\x01\0\0\0\x01\0\0\0",
     );
     print_amounts(
         b"amounts of 2 calls",
@@ -91,10 +91,14 @@ fn no_order() {
     print(b"no order, amounts absent", book, b"");
 }
 
+// 2 by 2, costs 1 2 / 3 5
+const F1_BOOK: [u8; 31] =
+    *b"CLB\x01\0\x02\x02\x03\0\0\0\x01\0\0\0\x02\0\0\0\x03\0\0\0\x03\0\0\0\x05\0\0\0";
+
 fn two_by_two() {
     print(
         b"F1",
-        b"CLB\x01\0\x02\x02\x03\0\0\0\x01\0\0\0\x02\0\0\0\x03\0\0\0\x03\0\0\0\x05\0\0\0",
+        &F1_BOOK,
         b"CLA\x01\0\x02\x02\x05\0\0\0\x04\0\0\0\x03\0\0\0\x06\0\0\0",
     );
     let book = b"CLB\x01\0\x02\x02\x03\0\0\0\0\0\0\0\0\0\0\0\x01\0\0\0\0\0\0\0";
@@ -154,6 +158,24 @@ fn zero_counts() {
         b"CLA\x01\0\x02\0\0\0\0\0\x04\0\0\0",
     );
     print_book(b"book of no calls with bit 0", b"CLB\x01\0\x01\0\x01\0\0\0");
+}
+
+// Amounts of version 2 (request 7): a lot's amount is what it holds less its reserve.
+fn reserves() {
+    print(
+        b"F1, lots 7 5, reserves 2 1",
+        &F1_BOOK,
+        b"CLA\x02\0\x02\x02\x07\0\0\0\x05\0\0\0\x03\0\0\0\x06\0\0\0\x02\0\0\0\x01\0\0\0",
+    );
+    print(
+        b"F1, lots 7 5, reserves 8 1",
+        &F1_BOOK,
+        b"CLA\x02\0\x02\x02\x07\0\0\0\x05\0\0\0\x03\0\0\0\x06\0\0\0\x08\0\0\0\x01\0\0\0",
+    );
+    print_amounts(
+        b"amounts of version 2 without reserves",
+        b"CLA\x02\0\x01\x01\x01\0\0\0\x01\0\0\0",
+    );
 }
 
 // Puts the lowest byte of a number at an offset, if the file reaches so far.
@@ -221,6 +243,27 @@ fn too_long() {
     print_book(b"book of 5,000 bytes", &book);
 }
 
+// Amounts of 32 by 32 in a version, as far as the file goes: 1,000 for each lot, call and reserve, but 995 for the last reserve. The cost is 7.
+fn print_32(label: &[u8], version: u32, amounts: &mut [u8]) {
+    let mut book = [0u8; 4231];
+    put_book(&mut book, 1, 7);
+    files::write_opening(amounts, &files::AMOUNTS_MARK, 32 + 256 * 32);
+    put(amounts, 3, version);
+    fill(amounts, 96, 1000, 1000);
+    put_u32(amounts, 7 + 4 * 95, 995);
+    print(label, &book, amounts);
+}
+
+// The largest amounts have 391 bytes, and 392 are read; version 1 has 263.
+fn longest_amounts() {
+    print_32(b"amounts of 391 bytes", 2, &mut [0u8; 391]);
+    print_32(b"amounts of 392 bytes", 2, &mut [0u8; 392]);
+    print_32(b"amounts of 500 bytes", 2, &mut [0u8; 500]);
+    print_32(b"amounts of 264 bytes in version 1", 1, &mut [0u8; 264]);
+    print_32(b"amounts of 391 bytes in version 1", 1, &mut [0u8; 391]);
+    print_32(b"amounts of 392 bytes in version 1", 1, &mut [0u8; 392]);
+}
+
 fn main() {
     book_openings();
     book_rows();
@@ -231,6 +274,8 @@ fn main() {
     one_by_one();
     rebates();
     zero_counts();
+    reserves();
     most_lines();
     too_long();
+    longest_amounts();
 }

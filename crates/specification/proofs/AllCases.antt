@@ -36,7 +36,7 @@ highCost = 65 ∷ 66 ∷ 15 ∷ 0 ∷ []
 abbrev pub highestAmount : List ℕ
 highestAmount = 0 ∷ 202 ∷ 154 ∷ 59 ∷ []
 
-abbrev highAmount : List ℕ
+abbrev pub highAmount : List ℕ
 highAmount = 1 ∷ 202 ∷ 154 ∷ 59 ∷ []
 
 -- a book of one lot and call, and its amounts

@@ -12,7 +12,7 @@ use Rattle.transport.specs.Order.{times}
 use Rattle.transport.specs.Signed.{sumℤ}
 use Rattle.transport.specs.Finder.{every, first, takeFrom}
 use Rattle.specification.specs.Reply.{gives, refuses, full, covered}
-use Rattle.specification.specs.Bytes.{u16At, u32At, bookMark, orderMark, amountsMark, readOpening}
+use Rattle.specification.specs.Bytes.{u16At, u32At, bookMark, orderMark, readOpening}
 use Rattle.specification.specs.Costs.{twosComplement}
 use Rattle.specification.specs.Book.{readCosts, readRow, readRows, readBook, rowAt, problemOf, costsOf, costs, pairCost}
 use Rattle.specification.specs.OrderFile.{pairs, pairBytes, orderFile}
@@ -79,7 +79,6 @@ pub record RebateCases : Type 0 where
   pub version-3 : readBook (bookMark ++ (3 ∷ 0 ∷ 1 ∷ 1 ∷ words (0 ∷ []))) ≡ refuses 3 []
   pub version-258 : readBook (bookMark ++ (2 ∷ 1 ∷ 1 ∷ 1 ∷ words (0 ∷ []))) ≡ refuses 3 []
   pub order-of-version-2 : checkOrder (singleSigned highestCost) (orderMark ++ (2 ∷ 0 ∷ 1 ∷ 0 ∷ 0 ∷ 0 ∷ [])) ≡ refuses 3 []
-  pub amounts-of-version-2 : readAmounts (singleSigned highestCost) (amountsMark ++ (2 ∷ 0 ∷ 1 ∷ 1 ∷ words (0 ∷ 0 ∷ []))) ≡ refuses 3 []
   pub found : take 7 (findBuffer bookRebates (replicate 15 7)) ≡ orderMark ++ (1 ∷ 0 ∷ 4 ∷ 0 ∷ [])
   -- the check compares with the signs: 1 + 5 is above -2 - 3; as numbers of 32 bits without a sign it would not be
   pub passes : checkOrder bookRebates (orderFile (pair 0 1 ∷ pair 0 0 ∷ pair 1 0 ∷ pair 1 1 ∷ [])) ≡ gives 4
@@ -127,7 +126,6 @@ rebate-cases =
       version-3 = refl;
       version-258 = refl;
       order-of-version-2 = refl;
-      amounts-of-version-2 = refl;
       found = refl;
       passes = refl;
       fails = refl;

@@ -2,7 +2,7 @@
 -- most 1,000,000, and no less than that below zero. So 64 bits hold units and a cost with its sign, and no number that is printed has more
 -- than 17 digits.
 use mathlib.Core.Path.{_≡_, sym, _∙_}
-use mathlib.Core.Logic.{by-cases}
+use mathlib.Core.Logic.{⊎-elim, by-cases}
 use mathlib.Core.Bool.{Bool, true, false, cond}
 use mathlib.Core.List.{List, []}
 use Prim.Native.Nat.{ℕ, suc, _*_, _≤_}
@@ -141,6 +141,6 @@ pub printing-not-17 : (book amounts : List ℕ) → findAndRun book amounts (rep
 printing-not-17 book amounts e = by-cause (said-of-refused (find-and-run-says book amounts (replicate 1024 0)) 17 [] e)
   where
     by-cause : FindRunRefused book amounts (replicate 1024 0) 17 [] → ⊥
-    by-cause (of-amounts q refused) = omega (arith, amounts-in-table q .1)
+    by-cause (of-amounts q refused) = ⊎-elim (λ low. omega arith) (λ (is-21 : 17 ≡ 21). omega arith) (amounts-in-table q .1)
     by-cause (flow-too-short {n} reads h) =
         omega (arith, cells-within (amounts-read book amounts n reads .0), length-replicate {A = ℕ} 1024 0)

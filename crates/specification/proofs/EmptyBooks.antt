@@ -16,16 +16,15 @@ use Rattle.specification.specs.Reply.{Reply, gives, refuses, _>>=_, Size
 use Rattle.specification.specs.Bytes.{byteAt, u32At, bookMark, amountsMark, readOpening}
 use Rattle.specification.specs.Book.{rowWord, readRow, readRows, bookVersion, bookLots, bookCalls, readBook, rowAt, rowStart}
 use Rattle.specification.specs.Amounts.{readAmountsOf, readAmounts}
-use Rattle.specification.specs.EmptyDesk.{EmptyOpening, NoBits, AmountsOf}
+use Rattle.specification.specs.EmptyDesk.{EmptyOpening, NoBits}
 use Rattle.specification.proofs.Replies.{passes-exactly}
 use Rattle.specification.proofs.Numbers.{u32-drop}
 use Rattle.specification.proofs.Bits.{bit-le}
-use Rattle.specification.proofs.Rows.{Opened, opening-says, opened-not-refused, row-says, row-read-not-refused}
+use Rattle.specification.proofs.Rows.{row-says, row-read-not-refused}
 use Rattle.specification.proofs.Rows.{RowRefused, word-cut, bit-outside, costs-cut, cost-too-high}
 use Rattle.specification.proofs.Books.{BookRead, book-read}
 use Rattle.specification.proofs.Books.{BookRefused, book-opening, count-outside, book-row, book-bytes-after}
 use Rattle.specification.proofs.Starts.{row-is, book-ends}
-use Rattle.specification.proofs.AmountsFiles.{amounts-read, amounts-reads}
 use Rattle.specification.proofs.Lines.{opening-in-table}
 
 -- no bit of 0 is set
@@ -170,7 +169,7 @@ unfolding readBook
 four-of book opens (inl lots) = rw (opens, lt-ltb 32 (bookLots book) lots) refl
 four-of book opens (inr calls) = rw (opens, lt-ltb 32 (bookCalls book) calls, or-true (ltb 32 (bookLots book))) refl
 
-pub differ-15 : (book amounts : List ℕ) (n : Size) → readBook book ≡ gives n → readOpening amountsMark 1 amounts ≡ gives tt
+pub differ-15 : (book amounts : List ℕ) (n : Size) → readBook book ≡ gives n → readOpening amountsMark 2 amounts ≡ gives tt
     → ((byteAt amounts 5 ≡ n .lots) × (byteAt amounts 6 ≡ n .calls) → ⊥) → readAmounts book amounts ≡ refuses 15 []
 unfolding readAmounts readAmountsOf
 differ-15 book amounts n reads opens differ =
@@ -180,24 +179,3 @@ differ-15 book amounts n reads opens differ =
     let (lots, calls) = and-says same-lots same-calls t in
     differ (eqb→eq (byteAt amounts 5) (n .lots) lots, eqb→eq (byteAt amounts 6) (n .calls) calls)) in
     rw (reads, opens, not-both-same) refl
-
-pub amounts-exactly : (book amounts : List ℕ) (n : Size) → readBook book ≡ gives n → (readAmounts book amounts ≡ gives n) ↔ AmountsOf n amounts
-amounts-exactly book amounts n reads = (
-  λ e. let read = amounts-read book amounts n e .1 in record {
-    opens = opening-exactly .1 (read .opened);
-    same-lots = read .same-lots;
-    same-calls = read .same-calls;
-    whole = read .whole;
-    within = read .within;
-  },
-  λ a. amounts-reads book amounts n (book-read book n reads) (record {
-    opened = opening-exactly .0 (a .opens);
-    same-lots = a .same-lots;
-    same-calls = a .same-calls;
-    whole = a .whole;
-    within = a .within;
-  }),
-)
-  where
-    opening-exactly : (readOpening amountsMark 1 amounts ≡ gives tt) ↔ Opened amountsMark 1 amounts
-    opening-exactly = passes-exactly (opening-says amountsMark 1 amounts) (λ opened k vs. opened-not-refused opened)

@@ -33,8 +33,9 @@ use Rattle.specification.specs.Requests.{Allowed}
 use Rattle.specification.specs.EmptyDesk.{Empty, EmptyDesk, EmptyAmounts, nothingPlaced, Request5}
 use Rattle.specification.proofs.Replies.{not-both, said-of-given, gives-if-never-refused}
 use Rattle.specification.proofs.Books.{book-read, book-refused, book-lifts, admitted-inside}
-use Rattle.specification.proofs.EmptyBooks.{empty-reads, empty-6, empty-5, empty-8, four-says, four-of, amounts-exactly, differ-15}
+use Rattle.specification.proofs.EmptyBooks.{empty-reads, empty-6, empty-5, empty-8, four-says, four-of, differ-15}
 use Rattle.specification.proofs.AmountsFiles.{amounts-read, book-of-amounts}
+use Rattle.specification.proofs.Reserves.{amounts-exactly}
 use Rattle.specification.proofs.NothingPlaced.{some-not-none, none-eligible, no-cells, no-size, no-pairs, found-none}
 use Rattle.specification.proofs.NothingPlaced.{nothing-placed, nothing-written}
 use Rattle.specification.proofs.Checks.{check-says, check-passes}

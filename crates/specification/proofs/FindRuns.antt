@@ -1,5 +1,6 @@
 -- Finding and running in one call: it replies and writes as the run by the order found.
 use mathlib.Core.Path.{_≡_, refl, sym, _∙_, ap}
+use mathlib.Core.Logic.{inl}
 use mathlib.Core.Bool.{Bool, true, false}
 use mathlib.Core.List.{List, []}
 use mathlib.Core.Option.{Option, some, none}
@@ -19,7 +20,8 @@ use Rattle.specification.specs.Check.{checkOrder}
 use Rattle.specification.specs.Run.{greedyOn, outcome, flowTooShort, runOrder, runFlow}
 use Rattle.specification.specs.Find.{orderLength, orderOr13, foundOrder, findOrder, foundToRun, findAndRun, findAndRunFlow}
 use Rattle.specification.specs.Demands.{Readable}
-use Rattle.specification.proofs.Replies.{Says, giving, UpTo, not-both, gives-less, says-known, says-then, says-unless, says-afterwards}
+use Rattle.specification.proofs.Replies.{Says, giving, UpToOr21, allow-more, not-both, gives-less, says-known, says-then, says-unless}
+use Rattle.specification.proofs.Replies.{says-afterwards}
 use Rattle.specification.proofs.AmountsFiles.{AmountsOrBookRefused, amounts-say, amounts-read, book-of-amounts}
 use Rattle.specification.proofs.Lines.{amounts-in-table}
 use Rattle.specification.proofs.Checks.{check-passes}
@@ -36,10 +38,10 @@ pub data FindRunRefused (book amounts flow : List ℕ) : ℕ → List ℕ → Ty
       → find (problemOf book) ≡ none → FindRunRefused book amounts flow 13 []
 
 -- each is a line of the table
-pub find-run-in-table : {book amounts flow : List ℕ} {k : ℕ} {vs : List ℕ} → FindRunRefused book amounts flow k vs → UpTo 17 k vs
-find-run-in-table (of-amounts q e) = let (line, low) = amounts-in-table q in (line, omega arith)
-find-run-in-table (flow-too-short reads h) = ((refusal.BufferTooShort, refl, refl), omega arith)
-find-run-in-table (no-order reads long e) = ((refusal.NoOrder, refl, refl), omega arith)
+pub find-run-in-table : {book amounts flow : List ℕ} {k : ℕ} {vs : List ℕ} → FindRunRefused book amounts flow k vs → UpToOr21 17 k vs
+find-run-in-table (of-amounts q e) = allow-more (omega arith) (amounts-in-table q)
+find-run-in-table (flow-too-short reads h) = ((refusal.BufferTooShort, refl, refl), inl (omega arith))
+find-run-in-table (no-order reads long e) = ((refusal.NoOrder, refl, refl), inl (omega arith))
 
 pub found-to-run-says : (book amounts flow : List ℕ)
     → Says (λ S. (find (problemOf book) ≡ some S) × (problemOf book .lots * problemOf book .calls ≤ length flow) × Readable book)

@@ -2,7 +2,7 @@
 -- calls by the order that is found for the enlarged book. That order is a Monge sequence of it, so by the theorems on the idle call the run is
 -- Full or Covered exactly when some allocation meets everything or every call, and no allocation that meets every call costs less.
 use mathlib.Core.Path.{_≡_, refl, sym, _∙_, ap}
-use mathlib.Core.Logic.{inr, ⊎-elim, _↔_}
+use mathlib.Core.Logic.{inl, inr, ⊎-elim, _↔_}
 use mathlib.Core.List.{List, []}
 use mathlib.Core.Option.{some, none}
 use Prim.Native.Nat.{ℕ, _*_, _≤_, _<_}
@@ -33,7 +33,8 @@ use Rattle.specification.specs.Requests.{SomeMeetsCalls, Allowed, IdleRu
 use Rattle.specification.proofs.Replies.{
   Says,
   giving,
-  UpTo,
+  UpToOr21,
+  allow-more,
   not-both,
   said-of-given,
   gives-if-never-refused,
@@ -65,12 +66,12 @@ pub data IdleRefused (book amounts flow : List ℕ) : ℕ → List ℕ → Type 
   no-order : Allowed book amounts flow → find (enlarged book) ≡ none → IdleRefused book amounts flow 13 []
 
 -- each is a line of the table
-pub idle-in-table : {book amounts flow : List ℕ} {k : ℕ} {vs : List ℕ} → IdleRefused book amounts flow k vs → UpTo 19 k vs
-idle-in-table (of-amounts q e) = let (line, low) = amounts-in-table q in (line, omega arith)
-idle-in-table (calls-exceed-lots reads h) = ((refusal.CallsExceedLots, refl, refl), omega arith)
-idle-in-table (no-idle-call reads h e) = ((refusal.NoIdleCall, refl, refl), omega arith)
-idle-in-table (flow-too-short reads h few short) = ((refusal.BufferTooShort, refl, refl), omega arith)
-idle-in-table (no-order allowed e) = ((refusal.NoOrder, refl, refl), omega arith)
+pub idle-in-table : {book amounts flow : List ℕ} {k : ℕ} {vs : List ℕ} → IdleRefused book amounts flow k vs → UpToOr21 19 k vs
+idle-in-table (of-amounts q e) = allow-more (omega arith) (amounts-in-table q)
+idle-in-table (calls-exceed-lots reads h) = ((refusal.CallsExceedLots, refl, refl), inl (omega arith))
+idle-in-table (no-idle-call reads h e) = ((refusal.NoIdleCall, refl, refl), inl (omega arith))
+idle-in-table (flow-too-short reads h few short) = ((refusal.BufferTooShort, refl, refl), inl (omega arith))
+idle-in-table (no-order allowed e) = ((refusal.NoOrder, refl, refl), inl (omega arith))
 
 -- the order of the enlarged book, where none of them applies
 pub record IdleGave (book amounts flow : List ℕ) (S : List Pair) : Type 0 where

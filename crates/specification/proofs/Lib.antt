@@ -3,6 +3,7 @@ pub mod AllCases  -- each number of the table up to 19 on an input that shows it
 pub mod AllRebates  -- costs below zero (request 4), computed
 pub mod AllEmptyDesks  -- desks with no lots or no calls (request 5), computed
 pub mod AllPanels  -- the ticket panel (request 6), computed
+pub mod AllReserves  -- stock reserved by the desk (request 7), computed
 pub mod Replies  -- what a reply means is read off its steps
 pub mod Numbers  -- little-endian numbers of a part of a file
 pub mod Bits  -- set bits of a word, and the book's test for 5
@@ -27,10 +28,13 @@ pub mod FindRuns  -- finding and running in one call is the run by the order fou
 pub mod IdleRuns  -- what finding and running with an idle call says
 pub mod Panels  -- what the ticket panel's call says, and what request 6 promises
 pub mod Bounds  -- units and cost fit 64 bits
+pub mod SameAmounts  -- runs by two amounts files with the same amounts
+pub mod Reserves  -- what request 7 promises beside the demands
 pub mod Rebates  -- what request 4 promises beside the demands
 pub mod EmptyBooks  -- reading a book with no lots or no calls, and its amounts
 pub mod NothingPlaced  -- where no pair is eligible, every run has one outcome
 pub mod Demands  -- the three demands, proved
 pub mod EmptyDesks  -- what request 5 promises beside the demands
 pub mod Examples  -- the demands speak of something: F1 and F9
+pub mod ReserveExamples  -- request 7 speaks of something
 pub mod Stated  -- two answers that state the same are the same

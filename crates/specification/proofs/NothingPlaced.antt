@@ -50,7 +50,7 @@ module _ (P : Problem) (empty : Empty (P .lots) (P .calls)) where
   -- what a run leaves to be said
   module _ {c : ℕ → ℕ → ℤ} {a b : ℕ → ℕ} {x : ℕ → ℕ → ℕ} {before after : List ℕ} {o : Outcome} (ran : Ran P c a b x before after o) where
     nothing : (i j : ℕ) → x i j ≡ 0
-    nothing i j = ran .not-eligible i j (none-eligible i j)
+    nothing i j = ran .allocation .eligible-only i j (none-eligible i j)
 
     of-lot : (i : ℕ) → lotSum P x i ≡ 0
     of-lot i = sum-zero (P .calls) (x i) (λ j h. nothing i j)
@@ -71,17 +71,13 @@ module _ (P : Problem) (empty : Empty (P .lots) (P .calls)) where
 
       calls-met : MeetsCalls P a b x
       calls-met = record {
-        allocation = record {
-          eligible-only = ran .not-eligible;
-          lot-within = λ i h. omega (arith, of-lot i);
-          call-within = λ j h. omega (arith, of-call j);
-        };
+        allocation = ran .allocation;
         calls-met = call-met;
       }
 
       all-met : sum (P .lots) a ≡ 0 → Meets P a b x
       all-met unstocked = record {
-        eligible-only = ran .not-eligible;
+        eligible-only = ran .allocation .eligible-only;
         lot-met = λ i h. omega (arith, of-lot i, term-le-sum (P .lots) a i h);
         call-met = call-met;
       }

@@ -8,14 +8,14 @@ use native.Mathlib.Omega.{arith}
 use lib.Dec.{ltb→lt, lt→ltb}
 use Rattle.transport.proofs.Laws.Tests.{T-true, T-of, or-says, or-of-left, or-of-right}
 use Rattle.specification.specs.declared.Refusal.the-variants as refusal
-use Rattle.specification.specs.Reply.{Reply, gives, refuses, Size, Outcome}
+use Rattle.specification.specs.Reply.{Reply, gives, refuses, Never, Size, Outcome}
 use Rattle.specification.specs.Book.{bookLots, bookCalls, readHead, readBook}
 use Rattle.specification.specs.Amounts.{readAmounts}
 use Rattle.specification.specs.Find.{foundToRun, findAndRun, findAndRunFlow}
 use Rattle.specification.specs.Panel.{aboveEight, readPanel, findAndRunPanel, findAndRunPanelFlow}
 use Rattle.specification.specs.Demands.{Answered}
-use Rattle.specification.specs.Requests.{Alike, AboveEight, Never20, Request6}
-use Rattle.specification.proofs.Replies.{Says, UpTo, not-both, said-of-given, said-of-refused, gives-if-never-refused}
+use Rattle.specification.specs.Requests.{Alike, AboveEight, Request6}
+use Rattle.specification.proofs.Replies.{UpToOr21, not-both, said-of-given, never, gives-if-never-refused}
 use Rattle.specification.proofs.Rows.{opening-says, opened-not-refused}
 use Rattle.specification.proofs.Books.{Headed, book-says, head-says, headed-reads}
 use Rattle.specification.proofs.PairCosts.{pair-cost-says}
@@ -89,10 +89,9 @@ module _ (book amounts flow : List ℕ) where
       by-panel (twenty _ _ reply write) = rw reply ((refusal.AboveEight, refl, refl), write)
       by-panel (the-same _ same) = rw (same .reply, same .writes) answered
 
--- a reply whose numbers are up to 19 is never 20
-never-20 : {A : Type 0} {G : A → Type 0} {Q : ℕ → List ℕ → Type 0} {r : Reply A} → Says G Q r → (most : ℕ) → most < 20
-    → ((k : ℕ) (vs : List ℕ) → Q k vs → UpTo most k vs) → Never20 r
-never-20 says most low numbers vs e = omega (arith, numbers 20 vs (said-of-refused says 20 vs e) .1)
+-- no number up to 19, and not 21
+not-20 : {most : ℕ} {vs : List ℕ} → most < 20 → UpToOr21 most 20 vs → ⊥
+not-20 few (_, number) = ⊎-elim (λ low. omega arith) (λ (is-21 : 20 ≡ 21). omega arith) number
 
 -- none of 1 to 4, and more than 8
 module _ (book : List ℕ) where
@@ -111,13 +110,16 @@ module _ (book : List ℕ) where
     above = above-says book t;
   }
 
+  found-never-20 : (amounts flow : List ℕ) → Never 20 (findAndRun book amounts flow)
+  found-never-20 amounts flow = never 20 (find-and-run-says book amounts flow) (λ vs q. not-20 (omega arith) (find-run-in-table q))
+
   refused-20 : (amounts flow : List ℕ) → (findAndRunPanel book amounts flow ≡ refuses 20 []) ↔ AboveEight book
   refused-20 amounts flow = by-panel (panel-is book amounts flow)
     where
       by-panel : Panel book amounts flow → (findAndRunPanel book amounts flow ≡ refuses 20 []) ↔ AboveEight book
       by-panel (twenty headed t reply _) = (λ _. above-eight headed t, λ _. reply)
       by-panel (the-same below same) = (
-        λ e. absurd (never-20 (find-and-run-says book amounts flow) 17 (omega arith) (λ k vs. find-run-in-table) [] (sym (same .reply) ∙ e)),
+        λ e. absurd (found-never-20 amounts flow [] (sym (same .reply) ∙ e)),
         λ a. absurd (true≢false (sym (above-of book (a .above)) ∙ below (headed-of a))),
       )
 
@@ -128,13 +130,13 @@ request6 = record {
   alike = alike;
   refused-20 = refused-20;
   alone = λ book order amounts buffer flow i j. (
-    never-20 (book-says book) 8 (omega arith) (λ k vs. book-in-table),
-    never-20 (pair-cost-says book i j) 8 (omega arith) (λ k vs. book-in-table),
-    never-20 (amounts-say book amounts) 16 (omega arith) (λ k vs. amounts-in-table),
-    never-20 (check-says book order) 14 (omega arith) (λ k vs. check-in-table),
-    never-20 (run-says book order amounts flow) 17 (omega arith) (λ k vs. run-in-table),
-    never-20 (find-says book buffer) 17 (omega arith) (λ k vs. find-in-table),
-    never-20 (find-and-run-says book amounts flow) 17 (omega arith) (λ k vs. find-run-in-table),
-    never-20 (idle-says book amounts flow) 19 (omega arith) (λ k vs. idle-in-table),
+    never 20 (book-says book) (λ vs q. omega (arith, book-in-table q)),
+    never 20 (pair-cost-says book i j) (λ vs q. omega (arith, book-in-table q)),
+    never 20 (amounts-say book amounts) (λ vs q. not-20 (omega arith) (amounts-in-table q)),
+    never 20 (check-says book order) (λ vs q. omega (arith, check-in-table q)),
+    never 20 (run-says book order amounts flow) (λ vs q. not-20 (omega arith) (run-in-table q)),
+    never 20 (find-says book buffer) (λ vs q. omega (arith, find-in-table q)),
+    found-never-20 book amounts flow,
+    never 20 (idle-says book amounts flow) (λ vs q. not-20 (omega arith) (idle-in-table q)),
   );
 }

@@ -7,7 +7,7 @@ use mathlib.Core.List.{List, [], _∷_}
 use Prim.Native.Nat.{ℕ, _+_, _≤_, _<_}
 use native.Mathlib.Decide.{ℕ-discrete, decLt}
 use native.Mathlib.Omega.{arith}
-use borrow.Author.Tests.{lt-ltb, le-ltb, ne-eqb}
+use borrow.Author.Tests.{le-ltb}
 use lib.Dec.{ltb}
 use lib.IntN.{pos}
 use lib.ListN.{length}
@@ -15,29 +15,23 @@ use lib.Pow.{pow-mono}
 use Rattle.transport.specs.Problem.{Eligible}
 use Rattle.transport.proofs.Theorems.Signed.{signed-cost-is, signed-order}
 use Rattle.specification.specs.Reply.{Reply, gives, refuses, Size}
-use Rattle.specification.specs.Bytes.{bookMark, orderMark, marked, versionOutside, readOpening}
-use Rattle.specification.specs.Costs.{twosComplement, heldCost, costOutside, Allows, liftedCost}
+use Rattle.specification.specs.Bytes.{bookMark, orderMark, marked}
+use Rattle.specification.specs.Costs.{twosComplement, costOutside, Allows, liftedCost}
 use Rattle.specification.specs.Book.{rowWord, rowCost, readRow, bookVersion, bookLots, bookCalls, readBook, rowAt, problemOf, costsOf}
 use Rattle.specification.specs.Requests.{FirstOutside, Request4}
 use Rattle.specification.proofs.Replies.{by-reply, said-of-given}
 use Rattle.specification.proofs.Bits.{bit-le}
 use Rattle.specification.proofs.Costs.{twos-complement-is, cost-lifted, cost-range, range-not-outside}
 use Rattle.specification.proofs.Rows.{RowRefused, word-cut, bit-outside, costs-cut, cost-too-high, row-says}
-use Rattle.specification.proofs.Rows.{opening-says, opened-first, opened-version}
+use Rattle.specification.proofs.Rows.{opening-says, opened-first, opened-version, opens-other}
 use Rattle.specification.proofs.Books.{BookRefused, book-row, book-read, book-refused, cost-allowed, book-lifts}
-use Rattle.specification.proofs.AmountsFiles.{amounts-read}
 use Rattle.specification.proofs.Checks.{check-passes-only}
 
 -- another version than 1 or 2
 other-version : (book : List ℕ) → 7 ≤ length book → marked bookMark book ≡ true
     → (bookVersion book ≡ 1 → ⊥) → (bookVersion book ≡ 2 → ⊥) → readBook book ≡ refuses 3 []
-unfolding readBook readOpening
-other-version book long mark not-1 not-2 = rw (le-ltb (length book) 7 long, mark, outside) refl
-  where
-    outside : versionOutside 2 book ≡ true
-    outside = by-cases (ℕ-discrete (bookVersion book) 0)
-        (λ (e : bookVersion book ≡ 0). rw e refl)
-        (λ some. rw (ne-eqb (bookVersion book) 0 some, lt-ltb 2 (bookVersion book) (omega arith)) refl)
+unfolding readBook
+other-version book long mark not-1 not-2 = rw (opens-other bookMark book long mark not-1 not-2) refl
 
 module _ (book : List ℕ) (n : Size) (reads : readBook book ≡ gives n) (i j : ℕ) (e : Eligible (problemOf book) i j) where
   abbrev held : ℕ
@@ -100,7 +94,6 @@ request4 = record {
   two-versions = λ book (n, reads). opened-version (book-read book n reads .opened);
   order-version = λ book order n passes. opened-first (said-of-given (opening-says orderMark 1 order) tt
       (check-passes-only book order n passes .shaped .opening));
-  amounts-version = λ book amounts n reads. opened-first (amounts-read book amounts n reads .1 .opened);
   twos-complement = twos-complement-is;
   version-2 = λ book (n, reads) two i j e. signed-cost book n reads i j e two;
   version-1 = λ book (n, reads) one i j e. unsigned-cost book n reads i j e one;

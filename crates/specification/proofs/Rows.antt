@@ -1,5 +1,5 @@
 -- What reading a file's opening and one row of a book say, each refusal where those before it in the stated order do not apply.
-use mathlib.Core.Path.{_≡_, sym, _∙_, subst}
+use mathlib.Core.Path.{_≡_, refl, sym, _∙_, subst}
 use mathlib.Core.Logic.{_⊎_, inl, inr, ⊎-elim, by-cases}
 use mathlib.Core.Bool.{Bool, true, false, not, _&&_, true≢false}
 use mathlib.Core.List.{List, [], _∷_}
@@ -9,7 +9,9 @@ use native.Mathlib.Omega.{arith}
 use lib.Dec.{T, ltb, leb, eqb, ltb→lt, nltb→le, leb→le, nleb→lt, T-not}
 use lib.ListN.{length}
 use lib.Pow.{pow-mono}
+use borrow.Author.Tests.{lt-ltb, le-ltb, ne-eqb}
 use Rattle.transport.proofs.Laws.Tests.{T-true, T-false, and-says, below-suc}
+use Rattle.specification.specs.Reply.{refuses}
 use Rattle.specification.specs.Bytes.{u16At, marked, versionOutside, readOpening}
 use Rattle.specification.specs.Costs.{costOutside}
 use Rattle.specification.specs.Book.{bit, rowWord, rowSize, rowCost, readCosts, readRow}
@@ -57,6 +59,17 @@ opened-version {mark} {s} opened =
     let positive : (version ≡ 0 → ⊥) = λ e. T-not (eqb version 0) some (rw e tt) in
     let low = nltb→le 2 version few in
     by-cases (ℕ-discrete version 1) inl (λ other. inr (omega arith))
+
+-- and with neither the file is refused by 3
+pub opens-other : (mark s : List ℕ) → 7 ≤ length s → marked mark s ≡ true → (u16At s 3 ≡ 1 → ⊥) → (u16At s 3 ≡ 2 → ⊥)
+    → readOpening mark 2 s ≡ refuses 3 []
+unfolding readOpening
+opens-other mark s long stands not-1 not-2 = rw (le-ltb (length s) 7 long, stands, outside) refl
+  where
+    outside : versionOutside 2 s ≡ true
+    outside = by-cases (ℕ-discrete (u16At s 3) 0)
+        (λ (e : u16At s 3 ≡ 0). rw e refl)
+        (λ some. rw (ne-eqb (u16At s 3) 0 some, lt-ltb 2 (u16At s 3) (omega arith)) refl)
 
 -- of one, it is that
 pub opened-first : {mark s : List ℕ} → Opened mark 1 s → u16At s 3 ≡ 1

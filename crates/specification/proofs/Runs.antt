@@ -15,7 +15,7 @@ use Rattle.transport.specs.Greedy.{State}
 use Rattle.transport.specs.Order.{Monge}
 use Rattle.transport.specs.Signed.{Lifts}
 use Rattle.transport.proofs.Orders.Lists.{lists-of-order}
-use Rattle.transport.proofs.Greedy.Given.{Kept, kept-meets, kept-meets-calls, greedy-kept}
+use Rattle.transport.proofs.Greedy.Given.{Kept, kept-allocation, kept-meets, kept-meets-calls, greedy-kept}
 use Rattle.transport.proofs.Greedy.Optimal.{greedy-most-units, good-of-monge}
 use Rattle.transport.proofs.Greedy.Signed.{signed-least-cost}
 use Rattle.transport.proofs.Theorems.{greedy-spends-iff}
@@ -32,7 +32,9 @@ use Rattle.specification.specs.Demands.{Passing, Ran, Best, ByPassing}
 use Rattle.specification.proofs.Replies.{
   Says,
   giving,
-  UpTo,
+  UpToOr21,
+  allow-more,
+  allow-21,
   not-both,
   said-of-given,
   said-of-refused,
@@ -57,10 +59,10 @@ pub data RunRefused (book order amounts flow : List ℕ) : ℕ → List ℕ → 
       → RunRefused book order amounts flow 17 []
 
 -- each is a line of the table
-pub run-in-table : {book order amounts flow : List ℕ} {k : ℕ} {vs : List ℕ} → RunRefused book order amounts flow k vs → UpTo 17 k vs
-run-in-table (of-check q e) = let (line, low) = check-in-table q in (line, omega arith)
-run-in-table (of-amounts passing q e) = let (line, low) = amounts-in-table q in (line, omega arith)
-run-in-table (flow-too-short passing read h) = ((refusal.BufferTooShort, refl, refl), omega arith)
+pub run-in-table : {book order amounts flow : List ℕ} {k : ℕ} {vs : List ℕ} → RunRefused book order amounts flow k vs → UpToOr21 17 k vs
+run-in-table (of-check q e) = allow-21 (omega arith) (check-in-table q)
+run-in-table (of-amounts passing q e) = allow-more (omega arith) (amounts-in-table q)
+run-in-table (flow-too-short passing read h) = ((refusal.BufferTooShort, refl, refl), inl (omega arith))
 
 -- the outcome is GREEDY's, the order passes, the amounts are read, and the flow buffer is long enough
 pub record RunGave (book order amounts flow : List ℕ) (o : Outcome) : Type 0 where
@@ -74,7 +76,7 @@ pub ran-of : (P : Problem) (c : ℕ → ℕ → ℤ) {a b : ℕ → ℕ} {s : St
     → P .lots * P .calls ≤ length flow → Ran P c a b (s .given) flow (flowOf P (s .given) flow) (outcome P c s)
 ran-of P c {a} {b} {s} kept flow long = record {
   flow = flow-at P _ flow;
-  not-eligible = kept .eligible-only;
+  allocation = kept-allocation kept;
   kept = flow-kept P _ flow;
   as-many = length-flowOf P _ flow long;
   its-units = refl;

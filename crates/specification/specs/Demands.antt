@@ -112,8 +112,8 @@ flowCost P c flow = signedCost P c (λ i j. getD flow (i * P .calls + j) 0)
 pub record Ran (P : Problem) (c : ℕ → ℕ → ℤ) (a b : ℕ → ℕ) (x : ℕ → ℕ → ℕ) (before after : List ℕ) (o : Outcome) : Type 0 where
   -- "a run's flow .. [is] .. their GREEDY['s]"
   pub flow : (i j : ℕ) → i < P .lots → j < P .calls → getD after (i * P .calls + j) 0 ≡ x i j
-  -- "0 if not eligible" (document 01)
-  pub not-eligible : (i j : ℕ) → (Eligible P i j → ⊥) → x i j ≡ 0
+  -- these are an allocation: "0 if not eligible", and "a lot's units sum to at most its amount, a call's likewise" (document 01)
+  pub allocation : Allocation P a b x
   -- "entries from n times m on keep their contents" (document 01), and there are as many as before
   pub kept : (k : ℕ) → getD after (P .lots * P .calls + k) 0 ≡ getD before (P .lots * P .calls + k) 0
   pub as-many : length after ≡ length before

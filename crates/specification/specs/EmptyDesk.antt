@@ -11,7 +11,7 @@ use lib.IntN.{pos}
 use Rattle.specification.specs.Reply.{gives, refuses, Size, Outcome, full, covered, short}
 use Rattle.specification.specs.Bytes.{byteAt, u32At, bookMark, amountsMark, readOpening}
 use Rattle.specification.specs.Book.{bookLots, bookCalls, readBook, lotCosts, outside, pairCost}
-use Rattle.specification.specs.Amounts.{amountLimit, amountAt, readAmounts}
+use Rattle.specification.specs.Amounts.{readAmounts}
 use Rattle.specification.specs.OrderFile.{orderCount, orderFile}
 use Rattle.specification.specs.Check.{checkOrder}
 use Rattle.specification.specs.Run.{verdictBy, runOrder, runFlow}
@@ -19,6 +19,7 @@ use Rattle.specification.specs.Find.{findOrder, findBuffer, findAndRun, 
 use Rattle.specification.specs.Idle.{lotsTotal, callsTotal, findAndRunIdle, findAndRunIdleFlow}
 use Rattle.specification.specs.Text.{decimal, line, verdictWord, bookMost, amountsMost, printed}
 use Rattle.specification.specs.Demands.{OrderShaped}
+use Rattle.specification.specs.Reserves.{AmountsOf}
 
 -- "n or m equal to 0"
 abbrev pub Empty : ℕ → ℕ → Type 0
@@ -42,14 +43,6 @@ pub record EmptyOpening (book : List ℕ) : Type 0 where
 pub record NoBits (book : List ℕ) (k : ℕ) : Type 0 where
   pub stand : 7 + 4 * k ≤ length book
   pub are-0 : (i : ℕ) → i < k → u32At book (7 + 4 * i) ≡ 0
-
--- amounts with the counts of a book
-pub record AmountsOf (n : Size) (amounts : List ℕ) : Type 0 where
-  pub opens : readOpening amountsMark 1 amounts ≡ gives tt
-  pub same-lots : byteAt amounts 5 ≡ n .lots
-  pub same-calls : byteAt amounts 6 ≡ n .calls
-  pub whole : length amounts ≡ 7 + 4 * (n .lots + n .calls)
-  pub within : (k : ℕ) → k < n .lots + n .calls → amountAt amounts k ≤ amountLimit
 
 -- the outcome where nothing is placed, "by the usual sums": Short where a call asks for units, else Covered where a lot has some, else Full
 abbrev pub nothingPlaced : List ℕ → List ℕ → Outcome
@@ -91,7 +84,7 @@ pub record Request5 : Type 0 where
   -- "Amounts may have the same zero counts": they are read as with every book
   pub amounts : (book amounts : List ℕ) (n : Size) → readBook book ≡ gives n → (readAmounts book amounts ≡ gives n) ↔ AmountsOf n amounts
   -- and 15 where a count differs
-  pub amounts-15 : (book amounts : List ℕ) (n : Size) → readBook book ≡ gives n → readOpening amountsMark 1 amounts ≡ gives tt
+  pub amounts-15 : (book amounts : List ℕ) (n : Size) → readBook book ≡ gives n → readOpening amountsMark 2 amounts ≡ gives tt
       → ((byteAt amounts 5 ≡ n .lots) × (byteAt amounts 6 ≡ n .calls) → ⊥) → readAmounts book amounts ≡ refuses 15 []
   -- every run of such a desk is accepted, with a flow buffer of any length, and writes nothing:
   -- by an order that passes,

@@ -75,7 +75,7 @@ abbrev pub amounts5436 : List ℕ
 amounts5436 = amounts 2 2 (5 ∷ 4 ∷ 3 ∷ 6 ∷ [])
 
 -- what is printed on F1: FULL 9 24, and the lines of its three pairs with units
-abbrev text5436 : List ℕ
+abbrev pub text5436 : List ℕ
 text5436 = 70 ∷ 85 ∷ 76 ∷ 76 ∷ 32 ∷ 57 ∷ 32 ∷ 50 ∷ 52 ∷ 10
     ∷ 48 ∷ 32 ∷ 49 ∷ 32 ∷ 53 ∷ 10
     ∷ 49 ∷ 32 ∷ 48 ∷ 32 ∷ 51 ∷ 10

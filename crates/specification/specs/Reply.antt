@@ -1,5 +1,6 @@
 -- Replies in document 01's own terms, and what each case of an answer's enum says in them. "When an answer is an enum, a definition
 -- states this paper's number and values for each of its cases, and the promises use this definition": `stated`, `statedCounts` and so on.
+use mathlib.Core.Path.{_≡_}
 use mathlib.Core.List.{List, [], _∷_}
 use mathlib.Core.Bool.{Bool, true, false}
 use Prim.Native.Nat.{ℕ}
@@ -69,10 +70,15 @@ stated refusal.BufferTooShort = line 17 []
 stated refusal.CallsExceedLots = line 18 []
 stated refusal.NoIdleCall = line 19 []
 stated refusal.AboveEight = line 20 []
+stated refusal.ReserveExceedsLot = line 21 []
 
 -- refused for this cause
 abbrev pub refused : {A : Type 0} → Refusal → Reply A
 refused r = refuses (stated r .number) (stated r .values)
+
+-- it is never refused by this number
+abbrev pub Never : ℕ → {A : Type 0} → Reply A → Type 0
+Never k r = (vs : List ℕ) → r ≡ refuses k vs → ⊥
 
 -- n and m
 pub record Size : Type 0 where

@@ -1,6 +1,7 @@
 -- What the change requests (document 02) promise beside the demands, as types. Above each part stands the sentence it is. A request
--- that changes what document 01 has is in the definitions and the demands themselves: request 1 in `Ran` and `Verdicts`, and request 4 in
--- `heldCost` and `costsOf`, by which every cost and every least cost is stated. Request 5 has a page of its own, `EmptyDesk`.
+-- that changes what document 01 has is in the definitions and the demands themselves: request 1 in `Ran` and `Verdicts`, request 4 in
+-- `heldCost` and `costsOf`, by which every cost and every least cost is stated, and request 7 in `lotAmount`, by which every amount of a
+-- lot is. Requests 5 and 7 have pages of their own, `EmptyDesk` and `Reserves`.
 use mathlib.Core.Path.{_≡_}
 use mathlib.Core.Logic.{_⊎_, _↔_}
 use mathlib.Core.Bool.{true}
@@ -17,7 +18,7 @@ use Rattle.transport.specs.Greedy.{Pair, pair}
 use Rattle.transport.specs.Signed.{signedCost, SignedFit, Lifts}
 use Rattle.specification.specs.declared.Quadruple.{Quadruple}
 use Rattle.specification.specs.declared.Quadruple.the-variants as quadruple
-use Rattle.specification.specs.Reply.{Reply, gives, refuses, Size, Outcome, full, covered, statedQuadruple}
+use Rattle.specification.specs.Reply.{gives, refuses, Never, Size, Outcome, full, covered, statedQuadruple}
 use Rattle.specification.specs.Bytes.{u16At, u32At, bookMark, marked, readOpening}
 use Rattle.specification.specs.Costs.{twosComplement, heldCost, costBase, costOutside, Allows}
 use Rattle.specification.specs.Book.{bit, rowWord, rowSize, rowCost, readRow, bookVersion, bookLots, bookCalls, readBook}
@@ -134,9 +135,8 @@ pub record Request4 : Type 0 where
   pub refused-3 : (book : List ℕ) → 7 ≤ length book → marked bookMark book ≡ true
       → (bookVersion book ≡ 1 → ⊥) → (bookVersion book ≡ 2 → ⊥) → readBook book ≡ refuses 3 []
   pub two-versions : (book : List ℕ) → Readable book → (bookVersion book ≡ 1) ⊎ (bookVersion book ≡ 2)
-  -- orders and amounts keep version 1
+  -- orders keep version 1
   pub order-version : (book order : List ℕ) (n : ℕ) → checkOrder book order ≡ gives n → u16At order 3 ≡ 1
-  pub amounts-version : (book amounts : List ℕ) (n : Size) → readAmounts book amounts ≡ gives n → u16At amounts 3 ≡ 1
   -- "two's complement" is the machine's own reading of 32 bits
   pub twos-complement : (held : ℕ) → held < 4294967296 → twosComplement held ≡ toZ w32 held
   -- "In version 2 a cost is signed, two's complement, from -1,000,000 to 1,000,000"
@@ -178,10 +178,6 @@ pub record AboveEight (book : List ℕ) : Type 0 where
   pub calls-few : bookCalls book ≤ 32
   pub above : (8 < bookLots book) ⊎ (8 < bookCalls book)
 
--- it is never refused by 20
-abbrev pub Never20 : {A : Type 0} → Reply A → Type 0
-Never20 r = (vs : List ℕ) → r ≡ refuses 20 vs → ⊥
-
 pub record Request6 : Type 0 where
   -- "Within eight by eight both reply and write alike on all inputs"
   pub within : (book amounts flow : List ℕ) → bookLots book ≤ 8 → bookCalls book ≤ 8 → Alike book amounts flow
@@ -190,6 +186,6 @@ pub record Request6 : Type 0 where
   -- "20 when n or m is above 8, placed directly after 4", whatever follows the first seven bytes
   pub refused-20 : (book amounts flow : List ℕ) → (findAndRunPanel book amounts flow ≡ refuses 20 []) ↔ AboveEight book
   -- for this call alone
-  pub alone : (book order amounts buffer flow : List ℕ) (i j : ℕ) → Never20 (readBook book) × Never20 (pairCost book i j)
-      × Never20 (readAmounts book amounts) × Never20 (checkOrder book order) × Never20 (runOrder book order amounts flow)
-      × Never20 (findOrder book buffer) × Never20 (findAndRun book amounts flow) × Never20 (findAndRunIdle book amounts flow)
+  pub alone : (book order amounts buffer flow : List ℕ) (i j : ℕ) → Never 20 (readBook book) × Never 20 (pairCost book i j)
+      × Never 20 (readAmounts book amounts) × Never 20 (checkOrder book order) × Never 20 (runOrder book order amounts flow)
+      × Never 20 (findOrder book buffer) × Never 20 (findAndRun book amounts flow) × Never 20 (findAndRunIdle book amounts flow)

@@ -56,7 +56,8 @@ textOf (refuses k vs) P flow = line refusedWord (decimal k ∷ [])
 textOf (gives o) P flow =
     line (verdictWord (o .verdict)) (decimal (o .units) ∷ decimalℤ (o .cost) ∷ []) ++ pairLines (P .calls) flow (P .lots * P .calls)
 
--- how much it reads of a book and of amounts: "at most 4,232 and 264 bytes of each", one more than the largest file has
+-- how much it reads of a book and of amounts: "at most 4,232 .. bytes" and "up to 392 bytes" (document 02, request 7), one more than the
+-- largest file has
 abbrev pub bookMost : ℕ
 bookMost = suc largestBook
 

@@ -19,7 +19,7 @@ pub enum Refusal {
     UnderSeven,
     // 2: mark differs
     MarkDiffers,
-    // 3: version not 1; of a book, "another version than 1 or 2" (document 02, request 4)
+    // 3: version not 1; of a book and of amounts, another than 1 or 2 (document 02, requests 4 and 7)
     VersionNotOne,
     // 4: book's n or m is above 32 (document 02, request 5: 0 is read)
     CountOutside,
@@ -45,7 +45,7 @@ pub enum Refusal {
     PairMissing,
     // 15: amounts' n or m differ from the book's
     CountsDiffer,
-    // 16: amount above 1,000,000,000
+    // 16: amount above 1,000,000,000, of a lot or call as the file holds it
     AmountTooHigh,
     // 17: lent buffer too short
     BufferTooShort,
@@ -55,6 +55,8 @@ pub enum Refusal {
     NoIdleCall,
     // 20: ticket panel: n or m is above 8
     AboveEight,
+    // 21: a reserve exceeds its lot
+    ReserveExceedsLot,
 }
 
 // "Reading a book, or amounts with their book, replies n and m" (The three files).

@@ -9,7 +9,7 @@ use borrow.Author.Needs.{needs}
 use Rattle.specification.specs.Amounts.{lotAmount, callAmount}
 use Rattle.panel.specs.Filling.{Filled}
 use Rattle.panel.specs.Search.{problemIn}
-use Rattle.panel.proofs.Placing.{Supplied, Ended, known, within, cells-few, searching, refused-13, ended, units-long, answered}
+use Rattle.panel.proofs.Placing.{Supplied, Ended, known, loadable, within, cells-few, searching, refused-13, ended, units-long, answered}
 use Rattle.panel.proofs.find_then_run.Statement.{statement}
 use Rattle.panel.proofs.find_then_run.Tie as tie
 
@@ -21,6 +21,9 @@ fill-requires c κs = let g = given (c .before .before .before .before .before) 
 
 pair-count-requires : tie.Need-pair-count-requires
 pair-count-requires c κs = let k = known (given (c .before .before .before .before .before .before)) in (k .is-readable, k .lots-is)
+
+remaining-of-requires : tie.Need-remaining-of-requires
+remaining-of-requires c κs = loadable (given (c .before .before .before .before .before .before .before))
 
 take-all-requires : tie.Need-take-all-requires
 take-all-requires c κs =
@@ -94,7 +97,7 @@ find-then-run-spec =
     (tie.spec
     fill-requires
     pair-count-requires
-    (λ c κs. search needs)
+    remaining-of-requires
     take-all-requires
     returns
     mul-write-flow

@@ -1,5 +1,4 @@
--- `panel::remaining_of` meets its contract: each array shows its stretch of the file.
-use native.Mathlib.Nat.{zero-add}
+-- `panel::remaining_of` meets its contract: each array shows its amounts.
 use borrow.Author.Needs.{needs}
 use Rattle.panel.proofs.remaining_of.Statement.{statement}
 use Rattle.panel.proofs.remaining_of.Tie as tie
@@ -7,8 +6,8 @@ use Rattle.panel.proofs.remaining_of.Tie as tie
 returns : tie.Need-returns
 returns c =
     record {
-      left-at = λ i l. rw (c .before .before .before .before .amounts-into .ensures i l, zero-add);
-      lacks-at = c .before .amounts-into2 .ensures;
+      left-at = c .before .before .before .before .lots-into .ensures;
+      lacks-at = c .before .amounts-into .ensures;
     }
 
 pub remaining-of-spec : {M : Type 1} → statement M

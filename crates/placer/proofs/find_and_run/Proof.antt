@@ -7,7 +7,7 @@ use Rattle.specification.specs.Book.{readBook}
 use Rattle.specification.specs.Amounts.{readAmounts}
 use Rattle.specification.specs.Find.{foundToRun, findAndRun, findAndRunFlow}
 use Rattle.specification.proofs.AmountsFiles.{book-of-amounts}
-use Rattle.run.proofs.Supplied.{sizes-within, lots-fit, loaded-holds}
+use Rattle.run.proofs.Supplied.{can-load, lots-fit, loaded-holds}
 use Rattle.placer.proofs.Placing.{plain-is}
 use Rattle.placer.proofs.find_and_run.Statement.{statement}
 use Rattle.placer.proofs.find_and_run.Tie as tie
@@ -33,7 +33,7 @@ returns c =
     (refl, search needs)
 
 remaining-of-requires : tie.Need-remaining-of-requires
-remaining-of-requires c κs = sizes-within _ (size c) (book-read c)
+remaining-of-requires c κs = can-load _ (size c) (book-read c) _ (read c)
 
 find-then-run-requires : tie.Need-find-then-run-requires
 find-then-run-requires c κs =

@@ -11,7 +11,7 @@ use Rattle.specification.specs.Amounts.{readAmounts}
 use Rattle.specification.specs.Check.{checkOrder}
 use Rattle.specification.specs.Run.{runOrder, runFlow}
 use Rattle.book.proofs.Readable.{counts-are}
-use Rattle.run.proofs.Supplied.{sizes-within, too-short, read-with, accepted, as-specified}
+use Rattle.run.proofs.Supplied.{sizes-within, can-load, too-short, read-with, accepted, as-specified}
 use Rattle.run.proofs.run_order.Statement.{statement}
 use Rattle.run.proofs.run_order.Tie as tie
 
@@ -101,7 +101,7 @@ returns-4 c =
     simp (passes (checked d), read d, too-short _ (size r) (reads r) (lent d) (c .if1 .taken)) (refl, search needs)
 
 remaining-of-requires : tie.Need-remaining-of-requires
-remaining-of-requires c κs = let r = read-book (c .before) in sizes-within _ (size r) (reads r)
+remaining-of-requires c κs = let r = read-book (c .before) in can-load _ (size r) (reads r) _ (read (c .before))
 
 run-by-requires : tie.Need-run-by-requires
 run-by-requires c κs =

@@ -1,13 +1,12 @@
 -- `amounts::inner::amounts_into` meets its contract. The invariant: the entries passed are the file's.
-use mathlib.Core.Path.{_≡_, refl, _∙_}
-use mathlib.Core.List.{List}
+use mathlib.Core.Path.{_≡_, refl}
 use Prim.Native.Nat.{ℕ, _+_, _≤_, _<_, _-_}
 use native.Mathlib.Omega.{arith}
-use lib.ListN.{length, getD, set, length-set}
-use lib.Seq.{getD-set-same, getD-set-other}
+use lib.ListN.{length, getD, length-set}
 use borrow.Author.Needs.{needs}
-use borrow.Author.Count.{below-none, below-more}
+use borrow.Author.Count.{below-none}
 use Rattle.specification.specs.Amounts.{amountAt}
+use Rattle.amounts.proofs.Showing.{shows-more}
 use Rattle.amounts.proofs.inner.amounts_into.Statement.{statement}
 use Rattle.amounts.proofs.inner.amounts_into.Tie as tie
 
@@ -17,14 +16,6 @@ Inv-loop amounts first count out₀ k₀ out k =
 
 abbrev μ-loop : tie.MeasureT-loop
 μ-loop amounts first count out₀ k₀ out k = count - k
-
--- an array that shows a function below k shows it below k + 1 once its value at k is stored there
-shows-more : (l : List ℕ) (f : ℕ → ℕ) (k v : ℕ) → k < length l → ((i : ℕ) → i < k → getD l i 0 ≡ f i) → v ≡ f k
-    → (i : ℕ) → i < k + 1 → getD (set l k v) i 0 ≡ f i
-shows-more l f k v hk h e =
-    below-more _ k
-    (λ i hi. getD-set-other l k i v 0 (λ (q : i ≡ k). omega arith) ∙ h i hi)
-    (getD-set-same l k v 0 hk ∙ e)
 
 loop-holds : tie.Need-loop-holds Inv-loop μ-loop
 loop-holds c = (omega arith, refl, below-none _)
