@@ -56,6 +56,7 @@ extern "C" {
 #define PLACER_VERSION_MINOR 0
 #define PLACER_VERSION_PATCH 0
 #define PLACER_VERSION "1.0.0" /* of the library; the files have versions of their own */
+#define PLACER_VERSION_NUMBER (PLACER_VERSION_MAJOR * 1000000 + PLACER_VERSION_MINOR * 1000 + PLACER_VERSION_PATCH)
 
 #define PLACER_LOTS_MAX 32
 #define PLACER_CALLS_MAX 32
@@ -72,30 +73,31 @@ extern "C" {
 #define PLACER_PANEL_FLOW_MAX 64 /* entries: always enough for it */
 #define PLACER_PANEL_STACK 8192  /* bytes: it takes no more (measured; most where the loader binds memcpy in the first call) */
 
-/* The refusals, by their numbers. In brackets the values that stand in `values`, from values[0] on. */
+/* The refusals, by their numbers. In brackets the values that stand in `values`, from values[0] on. Lots, calls and places in the order
+ * count from 0; of 10 it is the pair's second place. 16 is about amounts as the file holds them. */
 enum placer_number {
     PLACER_ACCEPTED = 0,
     PLACER_UNDER_SEVEN = 1,         /* a file is under 7 bytes */
     PLACER_MARK_DIFFERS = 2,        /* a file does not open with its mark */
-    PLACER_VERSION_NOT_ONE = 3,     /* a file's version is not 1; of a book or amounts: neither 1 nor 2 */
-    PLACER_COUNT_OUTSIDE = 4,       /* the book's n or m is above 32 */
-    PLACER_BIT_OUTSIDE = 5,         /* an eligibility bit m or higher is set [lot] */
+    PLACER_VERSION_NOT_ONE = 3,     /* a file's version is not 1 (of a book or amounts: neither 1 nor 2) */
+    PLACER_COUNT_OUTSIDE = 4,       /* the book's count of lots or calls is above 32 */
+    PLACER_BIT_OUTSIDE = 5,         /* an eligibility bit is set for a call that the book does not have [lot] */
     PLACER_ENDS_EARLY = 6,          /* a file ends before its last field */
-    PLACER_COST_TOO_HIGH = 7,       /* a cost is above 1,000,000 or, in a book of version 2, below -1,000,000 [lot, call] */
+    PLACER_COST_TOO_HIGH = 7,       /* a cost is above 1,000,000 (in a book of version 2: or below -1,000,000) [lot, call] */
     PLACER_BYTES_AFTER = 8,         /* a file has bytes after its last field */
-    PLACER_PAIR_NOT_ELIGIBLE = 9,   /* a pair of the order is not in the book or not eligible [place in the order, from 0] */
-    PLACER_PAIR_MET_BEFORE = 10,    /* a pair stands twice in the order [its second place] */
-    PLACER_CROSS_NOT_ELIGIBLE = 11, /* (i, j) precedes (i, l) and (k, j), and (k, l) is not eligible [i, j, k, l] */
-    PLACER_CROSS_SUM_TOO_HIGH = 12, /* likewise, and cost(i, j) + cost(k, l) > cost(i, l) + cost(k, j) [i, j, k, l] */
-    PLACER_NO_ORDER = 13,           /* no order of this book (with an idle call: of the enlarged book) passes the check */
+    PLACER_PAIR_NOT_ELIGIBLE = 9,   /* a pair of the order is not in the book or not eligible [place] */
+    PLACER_PAIR_MET_BEFORE = 10,    /* a pair of the order was met before [place] */
+    PLACER_CROSS_NOT_ELIGIBLE = 11, /* the order has (i, j) before (i, l) and (k, j), and (k, l) is not eligible [i, j, k, l] */
+    PLACER_CROSS_SUM_TOO_HIGH = 12, /* the order has (i, j) before (i, l) and (k, j), which cost less than (i, j) and (k, l) [i, j, k, l] */
+    PLACER_NO_ORDER = 13,           /* no order of this book (with an idle call: of the enlarged book) is good for all amounts */
     PLACER_PAIR_MISSING = 14,       /* an eligible pair is missing from the order */
-    PLACER_COUNTS_DIFFER = 15,      /* the amounts' n or m differ from the book's */
-    PLACER_AMOUNT_TOO_HIGH = 16,    /* an amount of a lot or call, as the file holds it, is above 1,000,000,000 */
+    PLACER_COUNTS_DIFFER = 15,      /* the amounts' count of lots or calls differs from the book's */
+    PLACER_AMOUNT_TOO_HIGH = 16,    /* an amount of a lot or call is above 1,000,000,000 */
     PLACER_BUFFER_TOO_SHORT = 17,   /* the buffer lent is too short */
-    PLACER_CALLS_EXCEED_LOTS = 18,  /* with an idle call: the calls' total exceeds the lots', less reserves */
-    PLACER_NO_IDLE_CALL = 19,       /* with an idle call: the book already has 32 calls */
-    PLACER_ABOVE_EIGHT = 20,        /* ticket panel: the book's n or m is above 8 */
-    PLACER_RESERVE_EXCEEDS_LOT = 21 /* a reserve is above what its lot holds; tested once no lot or call is 16 */
+    PLACER_CALLS_EXCEED_LOTS = 18,  /* the calls' total exceeds the lots' total, less their reserves */
+    PLACER_NO_IDLE_CALL = 19,       /* the book already has 32 calls, and the idle call would be one more */
+    PLACER_ABOVE_EIGHT = 20,        /* the book's count of lots or calls is above 8, the most that a ticket panel shows */
+    PLACER_RESERVE_EXCEEDS_LOT = 21 /* a reserve is above what its lot holds */
 };
 
 /* The verdict of a run. Whatever the verdict, no allocation places more units. Least cost is promised for Full, and by
@@ -205,6 +207,11 @@ placer_stretch placer_lot_costs(const uint8_t *book, size_t book_len, size_t lot
  *   refused     the book's numbers */
 placer_reply placer_pair_cost(const uint8_t *book, size_t book_len, size_t lot, size_t call);
 
+/* placer_version: the version of the library that is linked or loaded, in one number as PLACER_VERSION_NUMBER, which is this header's. They
+ * fit where the major versions are equal and the library's minor version is not below the header's.
+ *   returns   1,000,000 * major + 1,000 * minor + patch */
+uint32_t placer_version(void);
+
 /* placer_sentence: a refusal in English; of another number, "not a number of this library". The text is constant. */
 static inline const char *placer_sentence(uint32_t number)
 {
@@ -219,14 +226,14 @@ static inline const char *placer_sentence(uint32_t number)
         "a cost is above 1,000,000 (in a book of version 2: or below -1,000,000)",
         "a file has bytes after its last field",
         "a pair of the order is not in the book or not eligible",
-        "a pair stands twice in the order",
-        "the order is not good: the opposite pair of two lots and two calls is not eligible",
-        "the order is not good: two lots and two calls cost less the other way round",
-        "no order exists for this book (with an idle call: for the enlarged book)",
+        "a pair of the order was met before",
+        "the order has (i, j) before (i, l) and (k, j), and (k, l) is not eligible",
+        "the order has (i, j) before (i, l) and (k, j), which cost less than (i, j) and (k, l)",
+        "no order of this book (with an idle call: of the enlarged book) is good for all amounts",
         "an eligible pair is missing from the order",
-        "the amounts' counts differ from the book's",
-        "an amount is above 1,000,000,000",
-        "the buffer is too short",
+        "the amounts' count of lots or calls differs from the book's",
+        "an amount of a lot or call is above 1,000,000,000",
+        "the buffer lent is too short",
         "the calls' total exceeds the lots' total, less their reserves",
         "the book already has 32 calls, and the idle call would be one more",
         "the book's count of lots or calls is above 8, the most that a ticket panel shows",

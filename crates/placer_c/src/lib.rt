@@ -14,6 +14,7 @@ ghost use Rattle.specification.specs.Find.{findOrder, findBuffer, findAndRun, f
 ghost use Rattle.specification.specs.Idle.{findAndRunIdle, findAndRunIdleFlow};
 ghost use Rattle.specification.specs.Panel.{findAndRunPanel, findAndRunPanelFlow};
 ghost use Rattle.placer_c.specs.Answers.{answerOf, counts, costOf, number, placed, stretchOf};
+ghost use Rattle.placer_c.specs.Version.{version};
 
 // A reply: 0 or the refusal's number; 1 for Full, 2 for Short, 3 for Covered, else 0; and up to four values, the others 0. A cost is a
 // 64-bit two's complement number.
@@ -130,4 +131,12 @@ pub extern "C" fn placer_find_and_run_panel(book: &[u8], amounts: &[u8], flow: &
     ensures { λ _. ⌜ now (flow .exit) ≡ findAndRunPanelFlow (now (book .entry)) (now (amounts .entry)) (now (flow .entry)) ⌝ }
 {
     told::placed(placer::find_and_run_panel(book, amounts, flow))
+}
+
+// The version of the library, that of include/placer.h: major, minor and patch in one number.
+#[no_mangle]
+pub extern "C" fn placer_version() -> u32
+    ensures { λ r. ⌜ r ≡ version ⌝ }
+{
+    1000000
 }
