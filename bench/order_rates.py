@@ -8,25 +8,25 @@ BOOKS = 2000
 SIZES = [3, 4, 5, 6]
 
 
-def any_cost(rng, size, most):
-    """Return costs drawn from 0 to `most`, all pairs eligible."""
-    return [[rng.randint(0, most) for _ in range(size)] for _ in range(size)]
+def any_cost(rng, lots, calls, most, least=0):
+    """Return costs drawn from `least` to `most`, all pairs eligible."""
+    return [[rng.randint(least, most) for _ in range(calls)] for _ in range(lots)]
 
 
-def parts(rng, size):
+def parts(rng, lots, calls, most=999, least=0):
     """Return a random number for each lot and for each call."""
-    return [rng.randint(0, 999) for _ in range(size)], [rng.randint(0, 999) for _ in range(size)]
+    return [rng.randint(least, most) for _ in range(lots)], [rng.randint(least, most) for _ in range(calls)]
 
 
-def product(rng, size):
+def product(rng, *shape):
     """Return costs that are a lot's number times a call's number."""
-    lots, calls = parts(rng, size)
+    lots, calls = parts(rng, *shape)
     return [[lot * call for call in calls] for lot in lots]
 
 
-def total(rng, size):
+def total(rng, *shape):
     """Return costs that are a lot's number plus a call's number."""
-    lots, calls = parts(rng, size)
+    lots, calls = parts(rng, *shape)
     return [[lot + call for call in calls] for lot in lots]
 
 
@@ -37,26 +37,26 @@ def gaps(costs, rng, eligible):
 
 def ranked(costs, rng):
     """Keep a pair eligible where the lot's grade reaches the call's: a lot that serves a call serves every less strict one."""
-    grades, needs = parts(rng, len(costs))
+    grades, needs = parts(rng, len(costs), len(costs[0]))
     return [[cost if grade >= need else None for cost, need in zip(row, needs)] for row, grade in zip(costs, grades)]
 
 
 KINDS = {
-    "any, 0 to 9": lambda rng, size: any_cost(rng, size, 9),
-    "any, 0 to 1,000,000": lambda rng, size: any_cost(rng, size, 1_000_000),
+    "any, 0 to 9": lambda rng, *size: any_cost(rng, *size, 9),
+    "any, 0 to 1,000,000": lambda rng, *size: any_cost(rng, *size, 1_000_000),
     "a product: lot's number times call's number": product,
-    "a product, eligible by grade": lambda rng, size: ranked(product(rng, size), rng),
+    "a product, eligible by grade": lambda rng, *size: ranked(product(rng, *size), rng),
     "a sum: lot's number plus call's number": total,
-    "a sum, eligible by grade": lambda rng, size: ranked(total(rng, size), rng),
-    "a sum, four in five pairs eligible": lambda rng, size: gaps(total(rng, size), rng, 0.8),
-    "a sum, half of the pairs eligible": lambda rng, size: gaps(total(rng, size), rng, 0.5),
+    "a sum, eligible by grade": lambda rng, *size: ranked(total(rng, *size), rng),
+    "a sum, four in five pairs eligible": lambda rng, *size: gaps(total(rng, *size), rng, 0.8),
+    "a sum, half of the pairs eligible": lambda rng, *size: gaps(total(rng, *size), rng, 0.5),
 }
 
 
 def has_order(costs, idle):
     """Say whether an order is found."""
     try:
-        placer.place(costs, [0] * len(costs), [0] * len(costs), idle=idle)
+        placer.place(costs, [0] * len(costs), [0] * len(costs[0]), idle=idle)
         return True
     except placer.Refused as refused:
         if refused.cause is not placer.Cause.NO_ORDER:
@@ -77,7 +77,7 @@ def main():
         rng = random.Random(1)
         shares = []
         for size in SIZES:
-            books = [costs(rng, size) for _ in range(BOOKS)]
+            books = [costs(rng, size, size) for _ in range(BOOKS)]
             alone, idle = (percent(sum(has_order(book, idle) for book in books)) for idle in (False, True))
             shares.append(alone if alone == idle else f"{alone} ({idle})")
         print(f"| {kind} | " + " | ".join(shares) + " |")
