@@ -1,9 +1,12 @@
 # The C library: build/libplacer.a and build/libplacer.so, for x86-64 Linux only. The archive is compiled from proved code: `rt staticlib`
-# proves what has changed and then writes it. `make install PREFIX=/usr/local DESTDIR=`; `make test` runs the tests from outside.
+# proves what has changed and then writes it. `make install` takes PREFIX, LIBDIR and DESTDIR; `make dist` writes a release that needs no
+# Rattle kit, `make wheel` the Python package with the library inside, both to dist/; `make test` runs the tests from outside.
 PREFIX ?= /usr/local
+LIBDIR ?= $(PREFIX)/lib
 DESTDIR ?=
 VERSION := $(shell sed -n 's/^.define PLACER_VERSION "\([0-9.]*\)".*/\1/p' include/placer.h)
 MAJOR := $(firstword $(subst ., ,$(VERSION)))
+RELEASE := placer-$(VERSION)-linux-x86_64
 SOURCES := $(shell find crates -name '*.rt' -o -name '*.antt') crates.txt
 
 all: build/libplacer.a build/libplacer.so
@@ -23,21 +26,50 @@ build/place: $(SOURCES)
 	mkdir -p build
 	cp target/bin/place $@
 
+# the way from one installed folder to another
+way = $(shell realpath -m -s --relative-to=$(1) $(2))
+
 install: all build/place
-	install -D -m 755 build/place $(DESTDIR)$(PREFIX)/bin/place
-	install -d $(DESTDIR)$(PREFIX)/include $(DESTDIR)$(PREFIX)/lib/pkgconfig
-	install -m 644 include/placer.h $(DESTDIR)$(PREFIX)/include
-	install -m 644 build/libplacer.a $(DESTDIR)$(PREFIX)/lib
-	install -m 755 build/libplacer.so $(DESTDIR)$(PREFIX)/lib/libplacer.so.$(VERSION)
-	ln -sf libplacer.so.$(VERSION) $(DESTDIR)$(PREFIX)/lib/libplacer.so.$(MAJOR)
-	ln -sf libplacer.so.$(MAJOR) $(DESTDIR)$(PREFIX)/lib/libplacer.so
-	for page in $(wildcard man/*.[13]); do install -D -m 644 $$page $(DESTDIR)$(PREFIX)/share/man/man$${page##*.}/$${page#man/}; done
-	sed 's|@PREFIX@|$(PREFIX)|; s|@VERSION@|$(VERSION)|' placer.pc.in > $(DESTDIR)$(PREFIX)/lib/pkgconfig/placer.pc
+	install -d $(addprefix $(DESTDIR)$(PREFIX)/,bin include share/placer/python/placer) $(addprefix $(DESTDIR)$(LIBDIR)/,pkgconfig cmake/placer)
+	install -m 755 build/place $(DESTDIR)$(PREFIX)/bin
+	install -m 644 include/*.h $(DESTDIR)$(PREFIX)/include
+	install -m 644 build/libplacer.a $(DESTDIR)$(LIBDIR)
+	install -m 755 build/libplacer.so $(DESTDIR)$(LIBDIR)/libplacer.so.$(VERSION)
+	ln -sf libplacer.so.$(VERSION) $(DESTDIR)$(LIBDIR)/libplacer.so.$(MAJOR)
+	ln -sf libplacer.so.$(MAJOR) $(DESTDIR)$(LIBDIR)/libplacer.so
+	sed 's|@PREFIX@|$(PREFIX)|; s|@LIBDIR@|$(LIBDIR)|; s|@VERSION@|$(VERSION)|' packaging/placer.pc.in > $(DESTDIR)$(LIBDIR)/pkgconfig/placer.pc
+	for file in packaging/*.cmake; do \
+	    sed 's|@INCLUDE@|$(call way,$(LIBDIR)/cmake/placer,$(PREFIX)/include)|; s|@VERSION@|$(VERSION)|; s|@MAJOR@|$(MAJOR)|' $$file \
+	        > $(DESTDIR)$(LIBDIR)/cmake/placer/$${file#packaging/}; \
+	done
+	install -m 644 bindings/python/placer/*.py bindings/python/placer/py.typed $(DESTDIR)$(PREFIX)/share/placer/python/placer
+	sed 's|@LIBDIR@|$(call way,$(PREFIX)/bin,$(LIBDIR))|' bindings/python/launcher.py > $(DESTDIR)$(PREFIX)/bin/placer
+	chmod 755 $(DESTDIR)$(PREFIX)/bin/placer
+	for page in man/*.[13]; do install -D -m 644 $$page $(DESTDIR)$(PREFIX)/share/man/man$${page##*.}/$${page#man/}; done
+
+# A release is an installation that can be unpacked anywhere, with the Rust crate, examples and pages to read; the same sources make the
+# same bytes.
+dist: all build/place
+	rm -rf build/release
+	$(MAKE) -s install DESTDIR=$(CURDIR)/build/release PREFIX=/$(RELEASE) LIBDIR=/$(RELEASE)/lib
+	sed -i 's|/$(RELEASE)|$${pcfiledir}/../..|' build/release/$(RELEASE)/lib/pkgconfig/placer.pc
+	mkdir -p $(addprefix build/release/$(RELEASE)/share/,doc/placer/examples placer/rust)
+	cp -r bindings/rust/Cargo.toml bindings/rust/build.rs bindings/rust/src bindings/rust/examples build/release/$(RELEASE)/share/placer/rust
+	cp CHANGELOG.md $(addprefix docs/,FORMATS.md SCOPE.md WHEN-TO-USE.md BENCHMARKS.md benchmarks.svg) build/release/$(RELEASE)/share/doc/placer
+	cp -r examples/c examples/csv examples/python build/release/$(RELEASE)/share/doc/placer/examples
+	cp packaging/README.md LICENSE build/release/$(RELEASE)
+	rt version > build/release/$(RELEASE)/PROVED-BY
+	cd build/release/$(RELEASE) && find . -type f ! -name SHA256SUMS | LC_ALL=C sort | xargs sha256sum > SHA256SUMS
+	mkdir -p dist
+	tar -C build/release --sort=name --mtime=@0 --owner=0 --group=0 --numeric-owner -c $(RELEASE) | gzip -n9 > dist/$(RELEASE).tar.gz
+
+wheel: build/libplacer.so
+	python3 bindings/python/backend.py dist
 
 test:
 	tests/run
 
 clean:
-	rm -rf build
+	rm -rf build dist
 
-.PHONY: all install test clean
+.PHONY: all install dist wheel test clean
