@@ -1,7 +1,7 @@
 /* placer.h: place bond lots on margin calls by an order of the eligible pairs, at the least cost where everything can be met.
  *
  * This header is the manual of the C library (libplacer.a, libplacer.so; x86-64 Linux only; C99 or C++11). All that a caller has to know
- * stands here; docs/FORMATS.md of the sources has the files byte by byte.
+ * stands here; docs/FORMATS.md of the sources has the files byte by byte. placer_files.h makes the files from arrays, and takes them apart.
  *
  * A lot is a source of whole units, a call wants whole units. A book says for each lot and call whether the pair is eligible and what a
  * unit costs on it. An order lists the eligible pairs; running it gives each pair in turn the smaller of what its lot has left and what
@@ -74,7 +74,15 @@ extern "C" {
 #define PLACER_PANEL_STACK 8192  /* bytes: it takes no more (measured; most where the loader binds memcpy in the first call) */
 
 /* The refusals, by their numbers. In brackets the values that stand in `values`, from values[0] on. Lots, calls and places in the order
- * count from 0; of 10 it is the pair's second place. 16 is about amounts as the file holds them. */
+ * count from 0; of 10 it is the pair's second place. 16 is about amounts as the file holds them; 21 is tested once none is above.
+ *
+ * 4, 5, 7, 13, 19 and 20 are about the book, 9 to 12 and 14 about the order, 15, 16, 18 and 21 about the amounts, and 17 is about the
+ * buffer. 1, 2, 3, 6 and 8 do not say which file they are about. After one of these it is told by the files of the call; where that takes
+ * no order, the last line is left out:
+ *
+ *     const char *file = "amounts";
+ *     if (placer_read_book(book, book_len).number != PLACER_ACCEPTED) file = "book";
+ *     else if (placer_check_order(book, book_len, order, order_len).number != PLACER_ACCEPTED) file = "order"; */
 enum placer_number {
     PLACER_ACCEPTED = 0,
     PLACER_UNDER_SEVEN = 1,         /* a file is under 7 bytes */
@@ -163,7 +171,7 @@ placer_reply placer_find_and_run_panel(const uint8_t *book, size_t book_len, con
  *   order, order_len   written where the call accepts: an order file of 7 bytes and two a pair; later bytes are kept. Shorter is 17.
  *                      PLACER_ORDER_MAX bytes are always enough.
  *   accepted           values: the length of the file. Hand over this length, not the buffer's, when the order is checked or run.
- *   refused            the book's numbers, 17, 13 */
+ *   refused            the book's numbers, 17, 13: no order passes the check */
 placer_reply placer_find_order(const uint8_t *book, size_t book_len, uint8_t *order, size_t order_len);
 
 /* placer_run_order: check an order and run it.
@@ -178,7 +186,8 @@ placer_reply placer_run_order(const uint8_t *book, size_t book_len, const uint8_
  *   book, order   read
  *   accepted      values: the count of pairs. Each eligible pair stands in the order once, and for all lots i, k and calls j, l where
  *                 (i, j) precedes (i, l) and (k, j): (k, l) is eligible and cost(i, j) + cost(k, l) <= cost(i, l) + cost(k, j).
- *   refused       the book's numbers, the order's; of several failures 11 and 12, the first by place of (i, j), then k, then l */
+ *   refused       the book's numbers, the order's: 11 where (k, l) is not eligible, 12 where cost(i, j) + cost(k, l) > cost(i, l) +
+ *                 cost(k, j); of several failures 11 and 12, the first by place of (i, j), then k, then l */
 placer_reply placer_check_order(const uint8_t *book, size_t book_len, const uint8_t *order, size_t order_len);
 
 /* placer_read_book: whether a book is readable.
@@ -207,8 +216,8 @@ placer_stretch placer_lot_costs(const uint8_t *book, size_t book_len, size_t lot
  *   refused     the book's numbers */
 placer_reply placer_pair_cost(const uint8_t *book, size_t book_len, size_t lot, size_t call);
 
-/* placer_version: the version of the library that is linked or loaded, in one number as PLACER_VERSION_NUMBER, which is this header's. They
- * fit where the major versions are equal and the library's minor version is not below the header's.
+/* placer_version: the version of the library that is linked or loaded, in one number; this header's is PLACER_VERSION_NUMBER. They fit
+ * where the major versions are equal and the library's minor version is not below the header's.
  *   returns   1,000,000 * major + 1,000 * minor + patch */
 uint32_t placer_version(void);
 

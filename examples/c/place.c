@@ -11,14 +11,12 @@
 #include <inttypes.h>
 #include <stdio.h>
 
-#include "placer.h"
+#include "placer_files.h"
 
-static const uint8_t book[] = {'C', 'L', 'B', 1, 0, 2, 2,           /* version 1, two lots, two calls */
-                               3, 0, 0, 0, 1, 0, 0, 0, 2, 0, 0, 0,  /* lot 0: both calls, at 1 and 2 */
-                               3, 0, 0, 0, 3, 0, 0, 0, 5, 0, 0, 0}; /* lot 1: both calls, at 3 and 5 */
-static const uint8_t amounts[] = {'C', 'L', 'A', 1, 0, 2, 2,        /* version 1, two lots, two calls */
-                                  5, 0, 0, 0, 4, 0, 0, 0,           /* the lots' units */
-                                  3, 0, 0, 0, 6, 0, 0, 0};          /* the calls' units */
+enum { LOTS = 2, CALLS = 2, PAIRS = LOTS * CALLS };
+
+static const int32_t costs[PAIRS] = {1, 2, 3, 5}; /* lot by lot; PLACER_NOT_ELIGIBLE where a pair is not eligible */
+static const uint32_t lots[LOTS] = {5, 4}, calls[CALLS] = {3, 6};
 
 static int refused(placer_reply reply)
 {
@@ -35,25 +33,28 @@ static const char *word(uint32_t verdict)
 
 int main(void)
 {
-    uint8_t order[PLACER_ORDER_MAX];
-    uint32_t flow[PLACER_FLOW_MAX];
+    uint8_t book[PLACER_BOOK_MAX], order[PLACER_ORDER_MAX], amounts[PLACER_AMOUNTS_MAX];
+    size_t book_len = placer_encode_book(costs, LOTS, CALLS, book, sizeof book);
+    size_t amounts_len = placer_encode_amounts(lots, LOTS, calls, CALLS, NULL, amounts, sizeof amounts);
 
-    placer_reply found = placer_find_order(book, sizeof book, order, sizeof order);
+    placer_reply found = placer_find_order(book, book_len, order, sizeof order);
     if (refused(found)) return 2;
     size_t order_len = (size_t)found.values[0];
+    placer_pair pairs[PAIRS];
+    placer_reply listed = placer_decode_order(order, order_len, pairs, PAIRS);
+    if (refused(listed)) return 2;
     printf("order:");
-    for (size_t at = 7; at < order_len; at += 2) printf(" %d%d", order[at], order[at + 1]);
+    for (size_t place = 0; place < listed.values[0]; place++) printf(" %d%d", pairs[place].lot, pairs[place].call);
     printf("\n");
 
-    placer_reply placed = placer_run_order(book, sizeof book, order, order_len, amounts, sizeof amounts, flow, PLACER_FLOW_MAX);
+    uint32_t flow[PAIRS];
+    placer_reply placed = placer_run_order(book, book_len, order, order_len, amounts, amounts_len, flow, PAIRS);
     if (refused(placed)) return 2;
     printf("%s %" PRIu64 " %" PRId64 "\n", word(placed.verdict), placed.values[0], (int64_t)placed.values[1]); /* a cost is signed */
-
-    placer_reply size = placer_read_book(book, sizeof book);
-    for (uint64_t lot = 0; lot < size.values[0]; lot++)
-        for (uint64_t call = 0; call < size.values[1]; call++) {
-            uint32_t units = flow[lot * size.values[1] + call];
-            if (units > 0) printf("%" PRIu64 " %" PRIu64 " %" PRIu32 "\n", lot, call, units);
+    for (int lot = 0; lot < LOTS; lot++)
+        for (int call = 0; call < CALLS; call++) {
+            uint32_t units = flow[lot * CALLS + call];
+            if (units > 0) printf("%d %d %" PRIu32 "\n", lot, call, units);
         }
-    return placed.verdict == PLACER_FULL || placed.verdict == PLACER_COVERED ? 0 : 1;
+    return placed.verdict == PLACER_SHORT ? 1 : 0;
 }
