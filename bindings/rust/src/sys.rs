@@ -15,6 +15,8 @@ pub struct Stretch {
 }
 
 extern "C" {
+    #[allow(dead_code)] // not called by the comparison in tests/, which includes this file
+    pub fn placer_version() -> u32;
     pub fn placer_read_book(book: *const u8, book_len: usize) -> Reply;
     pub fn placer_lot_costs(book: *const u8, book_len: usize, lot: usize) -> Stretch;
     pub fn placer_pair_cost(book: *const u8, book_len: usize, lot: usize, call: usize) -> Reply;

@@ -4,18 +4,17 @@
 /// units.
 ///
 /// ```
-/// use placer::{find_and_run, Verdict};
+/// use placer::{amounts_bytes, book_bytes, find_and_run, Verdict};
 ///
 /// // Two lots and two calls, the last pair not eligible, costs 0; lots of 2 and 0 units, calls for 1 and 0 (example F8).
-/// let book = b"CLB\x01\0\x02\x02\x03\0\0\0\0\0\0\0\0\0\0\0\x01\0\0\0\0\0\0\0";
-/// let amounts = b"CLA\x01\0\x02\x02\x02\0\0\0\0\0\0\0\x01\0\0\0\0\0\0\0";
-/// let placed = find_and_run(book, amounts, &mut [0; 4])?;
+/// let book = book_bytes(&[[Some(0), Some(0)], [Some(0), None]], 2)?;
+/// let placed = find_and_run(&book, &amounts_bytes(&[2, 0], &[1, 0], None)?, &mut [0; 4])?;
 /// assert_eq!((placed.verdict, placed.units, placed.cost), (Verdict::Covered, 1, 0));
 ///
 /// // Lots of 0 and 1 units, calls for 0 and 1: a call lacks a unit, and a lot that is not eligible for it has one left.
-/// let amounts = b"CLA\x01\0\x02\x02\0\0\0\0\x01\0\0\0\0\0\0\0\x01\0\0\0";
-/// assert_eq!(find_and_run(book, amounts, &mut [0; 4])?.verdict, Verdict::Short);
-/// # Ok::<(), placer::Refusal>(())
+/// let placed = find_and_run(&book, &amounts_bytes(&[0, 1], &[0, 1], None)?, &mut [0; 4])?;
+/// assert_eq!(placed.verdict, Verdict::Short);
+/// # Ok::<(), Box<dyn std::error::Error>>(())
 /// ```
 #[derive(Clone, Copy, Debug, PartialEq, Eq, Hash)]
 pub enum Verdict {
