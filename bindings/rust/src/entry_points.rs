@@ -60,9 +60,9 @@ pub fn lot_costs(book: &[u8], lot: usize) -> &[u8] {
 /// assert_eq!(pair_cost(&book, 2, 0)?, None);
 /// # Ok::<(), Box<dyn std::error::Error>>(())
 /// ```
-pub fn pair_cost(book: &[u8], lot: usize, call: usize) -> Result<Option<i32>, Refusal> {
+pub fn pair_cost(book: &[u8], lot: usize, call: usize) -> Result<Option<i64>, Refusal> {
     let reply = accepted(book, None, || unsafe { sys::placer_pair_cost(book.as_ptr(), book.len(), lot, call) })?;
-    Ok((reply.values[0] == 1).then_some(reply.values[1] as i32))
+    Ok((reply.values[0] == 1).then_some(reply.values[1] as i64))
 }
 
 /// Reads amounts with their book: the counts.

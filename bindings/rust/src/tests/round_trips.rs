@@ -39,7 +39,7 @@ fn books() {
             let costs: Vec<u8> = row.iter().flatten().flat_map(|cost| cost.to_le_bytes()).collect();
             assert_eq!(lot_costs(&book, lot), costs);
             let call = chance.below(size.calls as u32 + 1) as usize;
-            assert_eq!(pair_cost(&book, lot, call), Ok(row.get(call).copied().flatten()));
+            assert_eq!(pair_cost(&book, lot, call), Ok(row.get(call).copied().flatten().map(i64::from)));
         }
     }
 }
