@@ -7,6 +7,7 @@ DESTDIR ?=
 VERSION := $(shell sed -n 's/^.define PLACER_VERSION "\([0-9.]*\)".*/\1/p' include/placer.h)
 MAJOR := $(firstword $(subst ., ,$(VERSION)))
 RELEASE := placer-$(VERSION)-linux-x86_64
+UNPACKED := build/release/$(RELEASE)
 SOURCES := $(shell find crates -name '*.rt' -o -name '*.antt') crates.txt
 
 all: build/libplacer.a build/libplacer.so
@@ -52,16 +53,16 @@ install: all build/place
 dist: all build/place
 	rm -rf build/release
 	$(MAKE) -s install DESTDIR=$(CURDIR)/build/release PREFIX=/$(RELEASE) LIBDIR=/$(RELEASE)/lib
-	sed -i 's|/$(RELEASE)|$${pcfiledir}/../..|' build/release/$(RELEASE)/lib/pkgconfig/placer.pc
-	mkdir -p $(addprefix build/release/$(RELEASE)/share/,doc/placer/examples placer/rust)
-	cp -r bindings/rust/Cargo.toml bindings/rust/build.rs bindings/rust/src bindings/rust/examples build/release/$(RELEASE)/share/placer/rust
-	cp CHANGELOG.md $(addprefix docs/,FORMATS.md SCOPE.md WHEN-TO-USE.md BENCHMARKS.md benchmarks.svg) build/release/$(RELEASE)/share/doc/placer
-	cp -r examples/c examples/csv examples/python build/release/$(RELEASE)/share/doc/placer/examples
-	cp packaging/README.md LICENSE build/release/$(RELEASE)
-	rt version > build/release/$(RELEASE)/PROVED-BY
-	cd build/release/$(RELEASE) && find . -type f ! -name SHA256SUMS | LC_ALL=C sort | xargs sha256sum > SHA256SUMS
+	sed -i 's|/$(RELEASE)|$${pcfiledir}/../..|' $(UNPACKED)/lib/pkgconfig/placer.pc
+	mkdir -p $(UNPACKED)/share/doc/placer/examples $(UNPACKED)/share/placer/rust
+	cp -r $(addprefix bindings/rust/,Cargo.toml build.rs src examples tests) $(UNPACKED)/share/placer/rust
+	cp -r $(addprefix examples/,c csv python) $(UNPACKED)/share/doc/placer/examples
+	cp $(addprefix docs/,FORMATS.md refusals.tsv SCOPE.md WHEN-TO-USE.md BENCHMARKS.md benchmarks.svg) CHANGELOG.md $(UNPACKED)/share/doc/placer
+	cp packaging/README.md LICENSE $(UNPACKED)
+	rt version > $(UNPACKED)/PROVED-BY
+	cd $(UNPACKED) && find . -type f ! -name SHA256SUMS | LC_ALL=C sort | xargs sha256sum > SHA256SUMS
 	mkdir -p dist
-	tar -C build/release --sort=name --mtime=@0 --owner=0 --group=0 --numeric-owner -c $(RELEASE) | gzip -n9 > dist/$(RELEASE).tar.gz
+	tar -C build/release --sort=name --mtime=@0 --owner=0 --group=0 --numeric-owner --mode=a+rX,u+w,go-w -I 'gzip -n9' -cf dist/$(RELEASE).tar.gz $(RELEASE)
 
 wheel: build/libplacer.so
 	python3 bindings/python/backend.py dist

@@ -46,6 +46,7 @@
 //! Proved: every reply and every buffer, for all inputs; that the order found is good, and that one is found whenever a good one exists.
 //! Trusted: the Rattle checker and compiler, this crate, rustc and the linker.
 #![cfg_attr(not(feature = "std"), no_std)]
+#![cfg_attr(not(feature = "std"), allow(rustdoc::broken_intra_doc_links))] // to the functions that need it
 #![deny(missing_docs)]
 
 mod entry_points;
