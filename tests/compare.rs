@@ -1,7 +1,9 @@
 //! Compares the C library with an independent reference and books of version 2 with those of version 1, and tries demand 3, what the
-//! verdicts promise and request 2 by brute force. The seed is fixed, so every run is the same. Parts run at the same time in several
-//! threads, as the library allows. The last line is `tests: N cases, D differences`; the exit status is 0 only if D is 0, each number and
-//! each verdict came, and each wrong reference was noticed. A digest of replies and writes is another where a landing changes one of them.
+//! verdicts promise and request 2 by brute force: `compare PLACE [SEED]`, PLACE being the printing program. All that is random follows
+//! from the seed, so every run with a seed is the same. Parts run at the same time in several threads, as the library allows. The last
+//! line is `tests: N cases, D differences`; the exit status is 0 only if D is 0, each number and each verdict came, and each wrong
+//! reference was noticed. A digest of replies and writes is another where a landing changes one of them; with another seed the digests,
+//! and the number of cases, are others too.
 mod amounts;
 mod checking;
 mod costs;
@@ -34,6 +36,7 @@ mod wrong;
 
 use library::{Books, Comparison, Tallies, Tally, DIGESTS, IDLE, OF_PANEL, OF_RESERVES, PANEL};
 use noticing::missed;
+use samples::DEFAULT_SEED;
 use std::collections::hash_map::DefaultHasher;
 use std::hash::Hasher;
 use std::path::Path;
@@ -57,8 +60,8 @@ struct Outcome {
     seconds: f64,
 }
 
-fn outcome(wrong: Wrong, work: &Work) -> Outcome {
-    let (start, mut c) = (Instant::now(), Comparison::new(wrong));
+fn outcome(wrong: Wrong, work: &Work, seed: u64) -> Outcome {
+    let (start, mut c) = (Instant::now(), Comparison::new(wrong, seed));
     work(&mut c);
     Outcome { digests: c.digests(), tallies: c.tallies, seconds: start.elapsed().as_secs_f64() }
 }
@@ -75,7 +78,7 @@ fn sum<'a>(tallies: impl Iterator<Item = &'a Tally>) -> Tally {
 }
 
 /// Runs all parts, two or more at a time; the outcomes in the sequence of the parts.
-fn run_all(parts: &[(Wrong, Work)]) -> Vec<Outcome> {
+fn run_all(parts: &[(Wrong, Work)], seed: u64) -> Vec<Outcome> {
     let workers = std::thread::available_parallelism().map_or(2, |n| n.get().clamp(2, 8));
     let (next, outcomes) = (AtomicUsize::new(0), Mutex::new(Vec::new()));
     std::thread::scope(|scope| {
@@ -84,7 +87,7 @@ fn run_all(parts: &[(Wrong, Work)]) -> Vec<Outcome> {
                 let k = next.fetch_add(1, Ordering::Relaxed);
                 match parts.get(k) {
                     Some((wrong, work)) => {
-                        let done = outcome(*wrong, work);
+                        let done = outcome(*wrong, work, seed);
                         outcomes.lock().unwrap().push((k, done));
                     }
                     None => break,
@@ -256,11 +259,22 @@ fn unseen(outcomes: &[Outcome]) -> u64 {
 }
 
 fn main() {
-    let path = std::env::args().nth(1).unwrap_or_default();
-    let parts = all_parts(Path::new(&path));
+    let arguments: Vec<String> = std::env::args().skip(1).collect();
+    let seed = arguments.get(1).map_or(Ok(DEFAULT_SEED), |seed| seed.parse());
+    let (path, seed) = match (arguments.first(), seed) {
+        (Some(path), Ok(seed)) if arguments.len() < 3 => (path, seed),
+        _ => {
+            eprintln!("usage: compare PLACE [SEED]");
+            std::process::exit(2);
+        }
+    };
+    if seed != DEFAULT_SEED {
+        println!("seed {seed}: the cases and digests on record are those of seed {DEFAULT_SEED}, and not to be compared with these");
+    }
+    let parts = all_parts(Path::new(path));
     let counts = [0, 1, 2, 3].map(|group| parts[group].len());
     let (names, works): (Vec<&str>, Vec<Work>) = parts.into_iter().flatten().unzip();
-    let outcomes = run_all(&works.into_iter().map(|work| (Wrong::Nothing, work)).collect::<Vec<_>>());
+    let outcomes = run_all(&works.into_iter().map(|work| (Wrong::Nothing, work)).collect::<Vec<_>>(), seed);
     let (mut cases, mut differences) = (0, 0);
     for (name, done) in names.iter().zip(&outcomes) {
         let tally = sum(done.tallies.values());
@@ -276,7 +290,7 @@ fn main() {
         group
     }));
 
-    let (missed, wrong) = missed(Path::new(&path));
+    let (missed, wrong) = missed(Path::new(path), seed);
     println!("wrong references: {} of {wrong} noticed", wrong - missed.len());
     missed.iter().for_each(|wrong| println!("NOT NOTICED: {wrong:?}"));
 

@@ -65,7 +65,7 @@ pub fn counts(c: &mut Comparison, counts: &[u8]) {
 
 /// Dense, sparse and other books of each kind, of each size about eight by eight.
 pub fn kinds(c: &mut Comparison, rounds: usize) {
-    let random = &mut Random(110);
+    let random = &mut c.random(110);
     for (version, (lots, calls), kind) in (0..rounds).flat_map(|_| in_each_version(&SIZES, &KINDS)) {
         let costs = costs(random, kind, lots, calls);
         let costs = in_version(random, version, costs);
@@ -76,7 +76,7 @@ pub fn kinds(c: &mut Comparison, rounds: usize) {
 
 /// The families of the benchmark of 7 and 8 lots and calls: as they are, with ties, and spoilt.
 pub fn families(c: &mut Comparison, version: u16) {
-    each_book(&mut Random(111), 6, &[7, 8], &mut |random, _, costs| {
+    each_book(&mut c.random(111), 6, &[7, 8], &mut |random, _, costs| {
         let costs = in_version(random, version, costs);
         let ((lots, calls), book) = (costs.size(), book_file(version, &costs));
         let amounts = amounts_file(lots, calls, &amounts(random, &costs));
@@ -88,7 +88,7 @@ pub fn families(c: &mut Comparison, version: u16) {
 /// Eight by eight at each end of either version's costs, with one cost about the limits at each pair in turn, and with amounts at their
 /// limits and about them.
 pub fn limits(c: &mut Comparison) {
-    let random = &mut Random(112);
+    let random = &mut c.random(112);
     for (version, cost) in [(1, 0), (1, 1_000_000), (2, -1_000_000), (2, 1_000_000)] {
         let costs = Costs::all_at(8, 8, cost);
         let book = book_file(version, &costs);
@@ -124,7 +124,7 @@ fn stored() -> Vec<Vec<u8>> {
 
 /// Book and amounts with a byte changed, cut and lengthened at each byte.
 pub fn damage(c: &mut Comparison) {
-    let random = &mut Random(113);
+    let random = &mut c.random(113);
     for book in stored() {
         let (lots, calls) = (book[5] as usize, book[6] as usize);
         let amounts = amounts_file(lots, calls, &random.numbers(lots + calls, 6));

@@ -181,7 +181,7 @@ pub fn each_book(random: &mut Random, rounds: usize, sizes: &[usize], work: &mut
 
 /// Finding, and for every second book finding and running with a flow buffer of just the length.
 pub fn families(c: &mut Comparison, version: u16, rounds: usize, sizes: &[usize]) {
-    each_book(&mut Random(60 + sizes.len() as u64), rounds, sizes, &mut |random, number, costs| {
+    each_book(&mut c.random(60 + sizes.len() as u64), rounds, sizes, &mut |random, number, costs| {
         let costs = in_version(random, version, costs);
         let ((lots, calls), book) = (costs.size(), book_file(version, &costs));
         c.find_order(&book, &random.bytes(7 + 2 * pairs(&costs).len()));

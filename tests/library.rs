@@ -2,6 +2,7 @@
 use crate::guarded::{Guarded, Part};
 use crate::placing::{Run, Verdict};
 use crate::reference::Refused;
+use crate::samples::Random;
 use crate::sys::{
     placer_check_order, placer_find_and_run, placer_find_and_run_idle, placer_find_and_run_panel, placer_find_order, placer_lot_costs,
     placer_pair_cost, placer_read_amounts, placer_read_book, placer_run_order, Reply,
@@ -81,6 +82,7 @@ pub type Tallies = BTreeMap<(&'static str, Books), Tally>;
 /// The library against the reference, or against a wrong one.
 pub struct Comparison {
     pub wrong: Wrong,
+    seed: u64,
     pub tallies: Tallies,
     /// Of every reply, and of the order buffer and the flow after it, by the book; the ticket panel's, and those with amounts of version 2,
     /// apart.
@@ -110,10 +112,15 @@ pub fn accepted(verdict: Verdict, units: u64, cost: i64) -> Reply {
 }
 
 impl Comparison {
-    pub fn new(wrong: Wrong) -> Comparison {
+    pub fn new(wrong: Wrong, seed: u64) -> Comparison {
         let room = |bytes| Guarded::new(bytes);
         let (book, order, amounts, flow) = (room(20_000), room(140_000), room(8_000), room(8_000));
-        Comparison { wrong, tallies: Tallies::new(), streams: Default::default(), book, order, amounts, flow }
+        Comparison { wrong, seed, tallies: Tallies::new(), streams: Default::default(), book, order, amounts, flow }
+    }
+
+    /// What is random in a part follows from the seed and the part's own number.
+    pub fn random(&self, number: u64) -> Random {
+        Random::new(self.seed, number)
     }
 
     /// Digests of what the library replied and wrote, by the stream: two builds that reply and write alike have the same.

@@ -6,7 +6,7 @@ use crate::eight_by_eight::on_panel;
 use crate::files::{amounts_file, book_file, order_file, relabelled};
 use crate::library::{accepted, refusal, Comparison, IDLE, PANEL, PLAIN};
 use crate::placing::Verdict;
-use crate::samples::{Kind, Random};
+use crate::samples::Kind;
 use crate::sections::{all_pairs, amount_limits, damage, every_entry, random_book, read_and_find, small_book};
 use crate::sys::Reply;
 use crate::{demand3, relabelled as twins, request2, versions};
@@ -53,7 +53,7 @@ pub fn opening(version: u16, lots: u8, calls: u8) -> Vec<u8> {
 
 /// Few lots or calls with every small amount.
 pub fn few(c: &mut Comparison) {
-    let random = &mut Random(100);
+    let random = &mut c.random(100);
     for version in [1, 2] {
         FEW.iter().for_each(|&(lots, calls)| small_book(c, random, version, &desk(lots, calls)));
     }
@@ -61,7 +61,7 @@ pub fn few(c: &mut Comparison) {
 
 /// Every book with orders and amounts of each kind and buffers of each length about the limit, and the two versions beside each other.
 pub fn every_book(c: &mut Comparison) {
-    let random = &mut Random(101);
+    let random = &mut c.random(101);
     for (lots, calls) in sizes() {
         for version in [1, 2] {
             let book = book_file(version, &desk(lots, calls));
@@ -95,7 +95,7 @@ pub fn damaged(c: &mut Comparison) {
 
 /// Each two of these counts, without rows and with a word of 0 for each lot; where one is 0, every entry point.
 pub fn counts(c: &mut Comparison, counts: &[u8]) {
-    let random = &mut Random(102);
+    let random = &mut c.random(102);
     for (version, lots, calls) in in_each_version(counts, counts) {
         let opening = opening(version, lots, calls);
         let book = [&opening[..], &vec![0; 4 * lots as usize]].concat();
@@ -112,7 +112,7 @@ pub fn counts(c: &mut Comparison, counts: &[u8]) {
 /// Without calls, to so many lots, a word that is not 0 at each lot, with every bit: whole, and cut within and after it. Later words are
 /// anything.
 pub fn words(c: &mut Comparison, most: usize) {
-    let random = &mut Random(103);
+    let random = &mut c.random(103);
     let lots_and_lot: Vec<_> = (1..=most).flat_map(|lots| (0..lots).map(move |lot| (lots, lot))).collect();
     let words: Vec<u32> = (0..32).map(|bit| 1 << bit).chain([u32::MAX]).collect();
     for (version, (lots, lot), word) in in_each_version(&lots_and_lot, &words) {
@@ -127,7 +127,7 @@ pub fn words(c: &mut Comparison, most: usize) {
 
 /// Amounts of each two counts beside books of each, and amounts about their limit.
 pub fn amounts(c: &mut Comparison) {
-    let random = &mut Random(104);
+    let random = &mut c.random(104);
     for (version, lots, calls) in in_each_version(&[0, 1, 2, 32], &[0, 1, 2, 32]) {
         let (book, flow) = (book_file(version, &desk(lots, calls)), random.entries(lots * calls));
         for (n, m) in each_two(&[0, 1, 2, 31, 32, 33, 255], &[0, 1, 2, 31, 32, 33, 255]) {
@@ -143,7 +143,8 @@ pub fn amounts(c: &mut Comparison) {
 /// Every version of each file.
 pub fn every_version(c: &mut Comparison) {
     for (lots, calls) in [(0, 0), (0, 2), (2, 0)] {
-        versions::every_version(c, &mut Random(105), &desk(lots, calls), &vec![1; lots + calls]);
+        let random = &mut c.random(105);
+        versions::every_version(c, random, &desk(lots, calls), &vec![1; lots + calls]);
     }
 }
 

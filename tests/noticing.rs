@@ -84,7 +84,7 @@ fn notice_request_7(c: &mut Comparison, names: &[&str], path: &Path) {
 }
 
 /// The wrong references that were not noticed, and how many there are; those of the printing program are left out where it is not built.
-pub fn missed(path: &Path) -> (Vec<Wrong>, usize) {
+pub fn missed(path: &Path, seed: u64) -> (Vec<Wrong>, usize) {
     let each = |errors: Errors, notice: fn(&mut Comparison, &[&str], &Path)| {
         let built = errors.iter().filter(|(_, names)| path.is_file() || !names.contains(&PLACE));
         built.map(move |&(wrong, names)| (names, (wrong, Box::new(move |c: &mut Comparison| notice(c, names, path)) as Work)))
@@ -92,7 +92,7 @@ pub fn missed(path: &Path) -> (Vec<Wrong>, usize) {
     let all = each(BEFORE_REQUEST_5, notice_before_request_5).chain(each(REQUEST_5, notice_request_5));
     let all = all.chain(each(REQUEST_6, notice_request_6)).chain(each(REQUEST_7, notice_request_7));
     let (names, parts): (Vec<_>, Vec<_>) = all.unzip();
-    let outcomes = run_all(&parts);
+    let outcomes = run_all(&parts, seed);
     let missed = (0..parts.len()).filter(|&k| !noticed(&outcomes[k].tallies, names[k]));
     (missed.map(|k| parts[k].0).collect(), parts.len())
 }

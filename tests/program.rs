@@ -160,7 +160,7 @@ fn with_place(c: &mut Comparison, program: &Path, work: impl Fn(&mut Place)) {
 
 pub fn program(c: &mut Comparison, program: &Path) {
     with_place(c, program, |place| {
-        let random = &mut Random(6);
+        let random = &mut place.c.random(6);
         place.stored(random, stored_books());
         place.random_books(random, 1, 1_000_000);
         place.known_runs(1, [known_runs(), one_unit()].concat());
@@ -172,7 +172,7 @@ pub fn program(c: &mut Comparison, program: &Path) {
 /// The same with books of version 2: a cost below zero, and one of zero.
 pub fn rebates(c: &mut Comparison, program: &Path) {
     with_place(c, program, |place| {
-        let random = &mut Random(7);
+        let random = &mut place.c.random(7);
         place.stored(random, stored_rebates());
         place.random_books(random, 2, -1_000_000);
         place.known_runs(2, [known_rebates(), known_runs()].concat());
@@ -184,7 +184,7 @@ pub fn rebates(c: &mut Comparison, program: &Path) {
 /// Books without lots or calls print one line alone.
 pub fn new_desks(c: &mut Comparison, program: &Path) {
     with_place(c, program, |place| {
-        let random = &mut Random(8);
+        let random = &mut place.c.random(8);
         for version in [1, 2] {
             for ((lots, calls), amounts, verdict, _) in known_desks() {
                 let (book, amounts) = (book_file(version, &desk(lots, calls)), amounts_file(lots, calls, &amounts));
@@ -207,7 +207,7 @@ pub fn new_desks(c: &mut Comparison, program: &Path) {
 /// Amounts of version 2: F1 beside reserves, refusals, the largest amounts, and random books.
 pub fn reserves(c: &mut Comparison, program: &Path) {
     with_place(c, program, |place| {
-        let (random, f1) = (&mut Random(9), &stored_books()[0]);
+        let (random, f1) = (&mut place.c.random(9), &stored_books()[0]);
         place.known(f1, &f1_amounts(), F1);
         place.known(f1, &reserved_file(2, 2, &[5, 4, 3, 6], &[1, 0]), "SHORT 8 22\n0 1 4\n1 0 3\n1 1 1\n");
         for (version, refused) in [(0, 3), (1, 8), (3, 3), (258, 3)] {

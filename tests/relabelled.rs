@@ -106,7 +106,7 @@ pub fn one_book(c: &mut Comparison, random: &mut Random, costs: &Costs) {
 }
 
 pub fn relabelled(c: &mut Comparison) {
-    let random = &mut Random(90);
+    let random = &mut c.random(90);
     small_books(c, random);
     for (count, most) in [(20_000, 4), (5_000, 12), (1_000, 32)] {
         for _ in 0..count {

@@ -79,7 +79,7 @@ fn random_book(c: &mut Comparison, random: &mut Random, version: u16, kind: Kind
 
 /// Books of either version, to so many lots and calls, without lots or calls too.
 pub fn random_books(c: &mut Comparison, count: usize, most: u64) {
-    let random = &mut Random(120 + most);
+    let random = &mut c.random(120 + most);
     for turn in 0..count {
         let (lots, calls, kind) = (random.below(most + 1) as usize, random.below(most + 1) as usize, random.pick(&KINDS));
         random_book(c, random, 1 + turn as u16 % 2, kind, (lots, calls));
@@ -113,7 +113,7 @@ pub fn lengths(c: &mut Comparison, sizes: &[(usize, usize)]) {
 
 /// Amounts of version 2 with a byte changed, cut and lengthened at each byte.
 pub fn damage(c: &mut Comparison) {
-    let random = &mut Random(121);
+    let random = &mut c.random(121);
     let desks = [(0, 2), (2, 0), (1, 3)].map(|(lots, calls)| book_file(1, &desk(lots, calls)));
     let eight = book_file(2, &Costs::own_call(8, 8));
     for book in [&stored_books()[..4], &stored_rebates()[..1], &desks, &[eight]].concat() {
@@ -184,7 +184,7 @@ pub fn causes(c: &mut Comparison) {
 
 /// Demand 3, the verdicts and request 2 by brute force, the allocations being those of what the reserves leave.
 pub fn brute_force(c: &mut Comparison) {
-    let random = &mut Random(122);
+    let random = &mut c.random(122);
     for (version, cells) in [(1, [None, Some(0), Some(1)]), (2, [None, Some(-1), Some(1)])] {
         for costs in [(1, 1), (1, 2), (2, 1), (2, 2)].iter().flat_map(|&(lots, calls)| all_books(lots, calls, &cells)) {
             let mut reserved = |amounts: Vec<u64>| Best { reserves: beside(random, &amounts[..costs.len()]), ..best(&costs, amounts) };

@@ -1,17 +1,29 @@
-//! Books, orders and amounts to try, from a fixed seed.
+//! Books, orders and amounts to try, from a seed.
 use crate::costs::{rows, Costs, NO};
 use crate::files::book_file;
 use crate::reference::Pair;
 
-pub struct Random(pub u64);
+/// The seed of a run without one, whose cases and digests are on record.
+pub const DEFAULT_SEED: u64 = 0;
+
+pub struct Random(u64);
+
+/// 0 stays 0.
+fn mixed(mut x: u64) -> u64 {
+    x = (x ^ (x >> 30)).wrapping_mul(0xbf58_476d_1ce4_e5b9);
+    x = (x ^ (x >> 27)).wrapping_mul(0x94d0_49bb_1331_11eb);
+    x ^ (x >> 31)
+}
 
 impl Random {
+    /// One of the sequences of a seed; of seed 0 it starts at its own number.
+    pub fn new(seed: u64, sequence: u64) -> Random {
+        Random(mixed(seed).wrapping_add(sequence))
+    }
+
     pub fn next(&mut self) -> u64 {
         self.0 = self.0.wrapping_add(0x9e37_79b9_7f4a_7c15);
-        let mut x = self.0;
-        x = (x ^ (x >> 30)).wrapping_mul(0xbf58_476d_1ce4_e5b9);
-        x = (x ^ (x >> 27)).wrapping_mul(0x94d0_49bb_1331_11eb);
-        x ^ (x >> 31)
+        mixed(self.0)
     }
 
     pub fn below(&mut self, bound: u64) -> u64 {

@@ -75,7 +75,7 @@ pub fn small_book(c: &mut Comparison, random: &mut Random, version: u16, costs: 
 
 /// Every book up to 2 by 2 with cells from `cells`.
 pub fn small_books(c: &mut Comparison, version: u16, cells: &[Option<i64>]) {
-    let random = &mut Random(1);
+    let random = &mut c.random(1);
     for (lots, calls) in [(1, 1), (1, 2), (2, 1), (2, 2)] {
         all_books(lots, calls, cells).iter().for_each(|costs| small_book(c, random, version, costs));
     }
@@ -133,7 +133,7 @@ pub fn random_book(c: &mut Comparison, random: &mut Random, version: u16, kind: 
 
 /// Books of so many lots and calls.
 pub fn random_books(c: &mut Comparison, version: u16, count: usize, (least, most): (usize, usize), orders: usize) {
-    let random = &mut Random(2 + most as u64);
+    let random = &mut c.random(2 + most as u64);
     for _ in 0..count {
         let mut size = || least + random.below((most + 1 - least) as u64) as usize;
         let (lots, calls, kind) = (size(), size(), random.pick(&KINDS));
@@ -143,7 +143,7 @@ pub fn random_books(c: &mut Comparison, version: u16, count: usize, (least, most
 
 /// Books with 32 lots or calls, of each kind.
 pub fn largest_books(c: &mut Comparison, version: u16) {
-    let random = &mut Random(40);
+    let random = &mut c.random(40);
     for size in [(32, 32), (32, 31), (31, 32), (32, 2), (2, 32)] {
         KINDS.iter().for_each(|&kind| random_book(c, random, version, kind, size, 4));
     }
@@ -151,7 +151,7 @@ pub fn largest_books(c: &mut Comparison, version: u16) {
 
 /// Files with a byte changed, cut and lengthened at each byte, alone and beside good ones.
 pub fn damage(c: &mut Comparison, books: &[Vec<u8>]) {
-    let random = &mut Random(3);
+    let random = &mut c.random(3);
     for book in books {
         all_pairs(c, book);
         let (lots, calls) = (book[5] as usize, book[6] as usize);
@@ -227,7 +227,7 @@ pub fn amount_limits(c: &mut Comparison, random: &mut Random, book: &[u8], order
 
 /// Costs and amounts at their limits, each in turn, and the largest books.
 pub fn limits(c: &mut Comparison) {
-    let random = &mut Random(4);
+    let random = &mut c.random(4);
     for (lots, calls) in [(1, 1), (2, 3), (1, 32), (32, 1)] {
         let zeros = Costs::all_at(lots, calls, 0);
         let order = order_file(&pairs(&zeros));
@@ -246,7 +246,7 @@ pub fn limits(c: &mut Comparison) {
 
 /// Order files of many pairs: repeated, outside after a whole order, and absent.
 pub fn long_orders(c: &mut Comparison) {
-    let random = &mut Random(5);
+    let random = &mut c.random(5);
     for (lots, calls) in [(1, 1), (2, 2), (5, 4), (32, 32)] {
         let costs = Costs::all_at(lots, calls, 0);
         let (book, own) = (book_file(1, &costs), pairs(&costs));

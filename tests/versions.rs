@@ -28,7 +28,7 @@ pub fn every_version(c: &mut Comparison, random: &mut Random, costs: &Costs, amo
 
 /// A book without costs below zero, and one with them.
 pub fn versions(c: &mut Comparison) {
-    let random = &mut Random(80);
+    let random = &mut c.random(80);
     for costs in [rows(&[&[1, 2], &[3, 5]]), rows(&[&[1, -2], &[-3, 5]])] {
         every_version(c, random, &costs, &[5, 4, 3, 5]);
     }
@@ -47,7 +47,7 @@ fn in_both(c: &mut Comparison, random: &mut Random, costs: &Costs) {
 
 /// Each cost at each pair in turn, and every book of 2 by 2 with the lowest and the highest of each range and those next to them.
 pub fn cost_limits(c: &mut Comparison) {
-    let random = &mut Random(81);
+    let random = &mut c.random(81);
     for (lots, calls) in [(1, 1), (2, 3), (1, 32), (32, 1)] {
         let zeros = Costs::all_at(lots, calls, 0);
         for (i, j) in pairs(&zeros) {
@@ -64,7 +64,7 @@ pub fn cost_limits(c: &mut Comparison) {
 
 /// The largest books of version 2, with all costs at an end of the range.
 pub fn largest_costs(c: &mut Comparison) {
-    let random = &mut Random(82);
+    let random = &mut c.random(82);
     for cost in [-1_000_000, 1_000_000] {
         [31, 32].into_iter().for_each(|calls| largest(c, random, 2, cost, calls));
     }
