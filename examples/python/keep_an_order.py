@@ -12,4 +12,4 @@ try:  # F2: pairs sorted by cost are no good order
     placer.check_order(book, placer.order_bytes([(0, 0), (0, 1), (1, 0), (1, 1)]))
 except placer.Refused as refused:
     print(refused)
-    print(refused.number, refused.cause.name, refused.values)
+    print(refused.number, refused.cause.name, refused.values, refused.file)

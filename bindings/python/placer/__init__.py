@@ -11,11 +11,8 @@ Examples:
     Placing(verdict=Verdict.FULL, units=9, cost=24, flow=((0, 5), (3, 1)))
 """
 
+from ._library import library_version
 from .entry_points import (
-    FLOW_MAX,
-    ORDER_MAX,
-    PANEL_FLOW_MAX,
-    PANEL_SIDE_MAX,
     Counts,
     check_order,
     find_and_run,
@@ -30,14 +27,33 @@ from .entry_points import (
     run_order,
 )
 from .files import amounts_bytes, book_bytes, order_bytes
+from .limits import (
+    AMOUNT_MAX,
+    AMOUNTS_MAX,
+    BOOK_MAX,
+    CALLS_MAX,
+    COST_MAX,
+    COST_MIN,
+    FLOW_MAX,
+    LOTS_MAX,
+    ORDER_MAX,
+    PANEL_FLOW_MAX,
+    PANEL_SIDE_MAX,
+)
 from .lists import Amounts, amounts_lists, book_costs, order_pairs
 from .placing import Placing, Verdict
 from .refused import Cause, Refused
-
-__version__ = "1.0.0"
+from .version import __version__
 
 __all__ = [
+    "AMOUNT_MAX",
+    "AMOUNTS_MAX",
+    "BOOK_MAX",
+    "CALLS_MAX",
+    "COST_MAX",
+    "COST_MIN",
     "FLOW_MAX",
+    "LOTS_MAX",
     "ORDER_MAX",
     "PANEL_FLOW_MAX",
     "PANEL_SIDE_MAX",
@@ -47,6 +63,7 @@ __all__ = [
     "Placing",
     "Refused",
     "Verdict",
+    "__version__",
     "amounts_bytes",
     "amounts_lists",
     "book_bytes",
@@ -56,6 +73,7 @@ __all__ = [
     "find_and_run_idle",
     "find_and_run_panel",
     "find_order",
+    "library_version",
     "lot_costs",
     "order_bytes",
     "order_pairs",

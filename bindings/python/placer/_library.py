@@ -1,4 +1,4 @@
-"""The shared library: found once, declared once. Every call of the C interface goes through `call`."""
+"""The shared library: found, held against the package's version and declared once. Every call of the C interface goes through `call`."""
 
 from __future__ import annotations
 
@@ -9,14 +9,15 @@ import mmap
 import os
 from array import array
 from pathlib import Path
-from typing import Any, Iterator, Tuple, Union
+from typing import Any, Dict, Iterator, Tuple, Union
 
-from .refused import Refused
+from . import version
+from .refused import OF_ANY_FILE, File, Refused
 
 BytesLike = Union[bytes, bytearray, memoryview, mmap.mmap, "array[int]", "ctypes.Array[Any]"]
 Writable = Union[bytearray, memoryview, mmap.mmap, "array[int]", "ctypes.Array[Any]"]
 
-_NAME = "libplacer.so"
+NAME = "libplacer.so"
 
 
 class _Reply(ctypes.Structure):
@@ -27,42 +28,77 @@ class _Stretch(ctypes.Structure):
     _fields_ = [("start", ctypes.c_size_t), ("len", ctypes.c_size_t)]
 
 
+# The files that each call is lent, in the order in which they are tested and handed over, and what follows them.
+_FILE, _NUMBER = [ctypes.c_void_p, ctypes.c_size_t], [ctypes.c_size_t]
+_BUFFER = _FILE
+_CALLS: Dict[str, Tuple[Tuple[File, ...], Any]] = {
+    "read_book": (("book",), []),
+    "pair_cost": (("book",), _NUMBER * 2),
+    "find_order": (("book",), _BUFFER),
+    "read_amounts": (("book", "amounts"), []),
+    "check_order": (("book", "order"), []),
+    "run_order": (("book", "order", "amounts"), _BUFFER),
+    "find_and_run": (("book", "amounts"), _BUFFER),
+    "find_and_run_idle": (("book", "amounts"), _BUFFER),
+    "find_and_run_panel": (("book", "amounts"), _BUFFER),
+}
+# The call that reads a file, with those before it.
+_READERS = {"book": "read_book", "order": "check_order"}
+
+
 def _paths() -> Iterator[str]:
     """Where the library may be, the first found being taken."""
-    here = Path(__file__).resolve()
-    folders = [here.parent] + [parent / "build" for parent in list(here.parents)[3:4]]
-    yield from (str(folder / _NAME) for folder in folders if (folder / _NAME).exists())
-    yield ctypes.util.find_library("placer") or _NAME
+    package = Path(__file__).resolve().parent
+    folders = [package]
+    if package.parts[-3:] == ("bindings", "python", "placer"):
+        folders.append(package.parents[2] / "build")
+    yield from (str(folder / NAME) for folder in folders if (folder / NAME).exists())
+    yield ctypes.util.find_library("placer") or NAME
+
+
+def _declare(loaded: ctypes.CDLL, name: str, result: Any, arguments: Any) -> None:
+    function = getattr(loaded, "placer_" + name)
+    function.argtypes, function.restype = arguments, result
+
+
+def load(path: str) -> ctypes.CDLL:
+    """Return the library of a path, declared; raise ImportError if it cannot be loaded or does not fit this package."""
+    try:
+        loaded = ctypes.CDLL(path)
+    except OSError as error:
+        raise ImportError(f"the placer library cannot be loaded ({error}); build it with `make`, or name it in PLACER_LIBRARY") from error
+    of = "a version before 1.0.0"
+    try:
+        _declare(loaded, "version", ctypes.c_uint32, [])
+        number = loaded.placer_version()
+        of = f"version {version.text(number)}"
+        if not version.fits(number):
+            raise ImportError(f"the library {path} is of {of}, {version.NEEDS}")
+        for name, (files, rest) in _CALLS.items():
+            _declare(loaded, name, _Reply, _FILE * len(files) + rest)
+        _declare(loaded, "lot_costs", _Stretch, _FILE + _NUMBER)
+    except AttributeError as error:
+        raise ImportError(f"the library {path} is of {of}, {version.NEEDS} ({error})") from None
+    return loaded
 
 
 @functools.lru_cache(maxsize=None)
 def library() -> ctypes.CDLL:
     """Return the loaded library: that of PLACER_LIBRARY, beside the package, in the repository's build folder, or the system's."""
-    path = os.environ.get("PLACER_LIBRARY") or next(_paths())
-    try:
-        loaded = ctypes.CDLL(path)
-    except OSError as error:
-        raise ImportError(f"the placer library cannot be loaded ({error}); build it with `make`, or name it in PLACER_LIBRARY") from error
-    file = [ctypes.c_void_p, ctypes.c_size_t]
-    for name, files in _FILES.items():
-        function = getattr(loaded, "placer_" + name)
-        function.argtypes, function.restype = file * files, _Reply
-    loaded.placer_lot_costs.argtypes, loaded.placer_lot_costs.restype = file + [ctypes.c_size_t], _Stretch
-    loaded.placer_pair_cost.argtypes, loaded.placer_pair_cost.restype = file + [ctypes.c_size_t] * 2, _Reply
-    return loaded
+    return load(os.environ.get("PLACER_LIBRARY") or next(_paths()))
 
 
-# How many slices each call is lent.
-_FILES = {
-    "read_book": 1,
-    "read_amounts": 2,
-    "check_order": 2,
-    "run_order": 4,
-    "find_order": 2,
-    "find_and_run": 3,
-    "find_and_run_idle": 3,
-    "find_and_run_panel": 3,
-}
+def library_version() -> str:
+    """Return the version of the library that is loaded.
+
+    Raises:
+        ImportError: there is no library, or none that fits this package, as by every call that needs it.
+
+    Examples:
+        >>> library_version()
+        '1.0.0'
+    """
+    return version.text(library().placer_version())
 
 
 def lend(data: BytesLike) -> Tuple[Any, int]:
@@ -93,11 +129,25 @@ def apart(lent: Tuple[Any, int], *files: Tuple[Any, int]) -> None:
             raise ValueError("the buffer to write overlaps a file that is read")
 
 
+def _reply(name: str, *arguments: Tuple[Any, ...]) -> Any:
+    return getattr(library(), "placer_" + name)(*(word for part in arguments for word in part))
+
+
+def _refused_file(name: str, *arguments: Tuple[Any, ...]) -> File:
+    """Return which of its files a call refused, by reading those before the last one by one."""
+    *tested, last = _CALLS[name][0]
+    for count, file in enumerate(tested, 1):
+        if _reply(_READERS[file], *arguments[:count]).number:
+            return file
+    return last
+
+
 def call(name: str, *arguments: Tuple[Any, ...]) -> Tuple[int, Tuple[int, ...]]:
     """Return the verdict and the four values of `placer_` + name; raise Refused if its number is not 0."""
-    reply = getattr(library(), "placer_" + name)(*(word for part in arguments for word in part))
+    reply = _reply(name, *arguments)
     if reply.number:
-        raise Refused(reply.number, tuple(reply.values))
+        file = _refused_file(name, *arguments) if reply.number in OF_ANY_FILE else None
+        raise Refused(reply.number, tuple(reply.values), file)
     return reply.verdict, tuple(reply.values)
 
 

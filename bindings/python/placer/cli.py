@@ -9,9 +9,8 @@ import io
 import os
 import sys
 from pathlib import Path
-from typing import Iterator, List, Optional, Sequence, TextIO
+from typing import Iterator, List, Optional, Sequence, TextIO, Tuple
 
-from . import __version__
 from .entry_points import (
     check_order,
     find_and_run,
@@ -23,10 +22,13 @@ from .entry_points import (
     run_order,
 )
 from .files import words
-from .lists import amounts_lists, book_costs, numbers, order_pairs
+from .lists import amounts_lists, book_costs
+from .page import page
 from .placing import Placing
 from .refused import Cause, Refused
-from .tables import SOLVER, BadInput, Problem, contents, load, told
+from .showing import MARKED, flow_text
+from .tables import SOLVER, BadInput, Problem, contents, load, named, told
+from .version import __version__
 
 DONE, SHORT, REFUSED = 0, 1, 2  # exit status
 
@@ -55,19 +57,6 @@ the program `place`, which reads the files of `placer encode` and prints the pla
 without --idle."""
 
 
-def _text(rows: Sequence[Sequence[object]]) -> str:
-    """Return a table with its columns lined up on the right."""
-    cells = [[str(cell) for cell in row] for row in rows]
-    widths = [max(map(len, column)) for column in zip(*cells)]
-    return "".join("  ".join(map(str.rjust, row, widths)) + "\n" for row in cells)
-
-
-def _matrix(cells: Sequence[Sequence[Optional[int]]], calls: int) -> str:
-    """Return a table of lots by calls, with - where a pair is not eligible."""
-    head = ["lot\\call", *range(calls)]
-    return _text([head, *([lot, *("-" if cell is None else cell for cell in row)] for lot, row in enumerate(cells))])
-
-
 def _send(stream: TextIO, text: str) -> None:
     """Write and flush. What cannot be written is dropped, so that leaving the program does not fail by it again."""
     try:
@@ -85,6 +74,12 @@ def _out(text: str) -> None:
     if isinstance(sys.stdout, io.TextIOWrapper):
         sys.stdout.reconfigure(encoding="utf-8")
     _send(sys.stdout, text)
+
+
+def _marks() -> bool:
+    """Return whether standard output is a terminal that shows marks, and they are wanted."""
+    terminal = sys.stdout is not None and sys.stdout.isatty() and os.environ.get("TERM", "dumb") != "dumb"
+    return terminal and not os.environ.get("NO_COLOR")
 
 
 def _say(line: str) -> None:
@@ -116,13 +111,13 @@ def _with_idle(files: Sequence[str], problem: Problem) -> Placing:
     try:
         return find_and_run_idle(problem.book, problem.amounts)
     except Refused as refused:
-        path, cause, instead = files[-1], str(refused), f"place without --idle, or, for the least cost, {SOLVER}"
+        path, instead = files[-1], f"place without --idle, or, for the least cost, {SOLVER}"
         if refused.cause is Cause.CALLS_EXCEED_LOTS:
             instead = "place without --idle"
         elif refused.cause is Cause.NO_ORDER:
             told(files[0], find_order, problem.book)  # which says so if the book alone has none either
-            path, cause = files[0], "refused 13: with an idle call no order is good for all amounts, though the book alone has one"
-        raise BadInput(path, None, f"{cause}; {instead}") from None
+            path, instead = files[0], f"the book alone has one: {instead}"
+        raise BadInput(path, None, f"{refused}; {instead}") from None
 
 
 def _for_panel(files: Sequence[str], problem: Problem) -> Placing:
@@ -138,20 +133,27 @@ def _for_panel(files: Sequence[str], problem: Problem) -> Placing:
         raise BadInput(path, None, f"{refused}; {instead}") from None
 
 
-def _place(options: argparse.Namespace) -> int:
-    problem = load(options.files)
+def _placed(options: argparse.Namespace, problem: Problem) -> Tuple[Placing, str]:
+    """Place as the options ask for, and return how in words too."""
+    found = "by an order that was found for the book"
     if options.order:
         order = contents(options.order)
         told(options.order, check_order, problem.book, order)
-        placing = run_order(problem.book, order, problem.amounts)
-    elif options.idle:
-        placing = _with_idle(options.files, problem)
-    elif options.panel:
-        placing = _for_panel(options.files, problem)
-    else:
-        placing = told(options.files[0], find_and_run, problem.book, problem.amounts)
+        return run_order(problem.book, order, problem.amounts), f"by the order of {named(options.order)}"
+    if options.idle:
+        return _with_idle(options.files, problem), f"{found} with an idle call, which takes what stays in the lots"
+    if options.panel:
+        return _for_panel(options.files, problem), f"{found}, within the limits of a ticket panel"
+    return told(options.files[0], find_and_run, problem.book, problem.amounts), found
+
+
+def _place(options: argparse.Namespace) -> int:
+    problem = load(options.files)
+    placing, how = _placed(options, problem)
     if options.flow:
         Path(options.flow).write_bytes(words(units for row in placing.flow for units in row))
+    if options.html:
+        _write(options.html, page(problem, placing, how))
     _write(options.output, _units(problem, placing))
     _say(f"{placing.verdict.name.lower()}: {placing.units} units, cost {placing.cost}")
     return DONE if placing.met else SHORT
@@ -186,44 +188,22 @@ def _dimacs(options: argparse.Namespace) -> int:
     return DONE
 
 
-def _shown_book(data: bytes) -> str:
-    costs, (lots, calls) = book_costs(data), read_book(data)
-    pairs = sum(cost is not None for row in costs for cost in row)
-    return f"book: {lots} lots, {calls} calls, {pairs} eligible pairs, costs in hundredths of a cent\n" + _matrix(costs, calls)
-
-
-def _shown_order(data: bytes) -> str:
-    order = order_pairs(data)
-    return f"order: {len(order)} pairs\n" + _text([["place", "lot", "call"], *([place, *pair] for place, pair in enumerate(order))])
-
-
-def _shown_amounts(data: bytes) -> str:
-    lots, calls, reserves = amounts_lists(data)
-    title = f"amounts: the lots have {sum(lots)} units"
-    rows: List[List[object]] = [["", "number", "amount"]]
-    rows += [[what, number, amount] for what, amounts in (("lot", lots), ("call", calls)) for number, amount in enumerate(amounts)]
-    if reserves is not None:
-        title += f", {sum(reserves)} of them reserved"
-        rows = [[*row, cell] for row, cell in zip(rows, ["reserve", *reserves, *"-" * len(calls)])]
-    return f"{title}, the calls ask for {sum(calls)}\n" + _text(rows)
-
-
-def _shown_flow(path: str, data: bytes, book: str) -> str:
-    file = contents(book)
-    lots, calls = told(book, read_book, file)
-    if len(data) != 4 * lots * calls:
-        raise BadInput(path, None, f"a flow of this book has {4 * lots * calls} bytes, not {len(data)}")
-    units, costs = numbers(data), book_costs(file)
-    flow = [[None if cost is None else units[lot * calls + call] for call, cost in enumerate(row)] for lot, row in enumerate(costs)]
-    return f"flow: {sum(units)} units\n" + _matrix(flow, calls)
-
-
 def _show(options: argparse.Namespace) -> int:
     data = contents(options.file)
-    shown = {b"CLB": _shown_book, b"CLO": _shown_order, b"CLA": _shown_amounts}.get(data[:3])
-    if shown is None and not options.book:
+    if options.book:
+        book, amounts = contents(options.book), None
+        told(options.book, read_book, book)
+        if options.amounts:
+            amounts = contents(options.amounts)
+            told(options.amounts, read_amounts, book, amounts)
+        _out(flow_text(options.file, data, book, amounts, _marks()))
+        return DONE
+    if data[:3] not in MARKED:
         raise BadInput(options.file, None, "neither a book, an order nor amounts; for a flow name its book by --book")
-    _out(told(options.file, shown, data) if shown else _shown_flow(options.file, data, options.book))
+    what, shown = MARKED[data[:3]]
+    if options.amounts:
+        raise BadInput(options.file, None, f"marked as {what}, to be shown without --amounts, which goes with a flow and its --book")
+    _out(told(options.file, shown, data))
     return DONE
 
 
@@ -259,6 +239,7 @@ def _parser() -> argparse.ArgumentParser:
     how.add_argument("--idle", action="store_true", help="with stock to spare, make the cheapest choice of what stays in the lots")
     how.add_argument("--panel", action="store_true", help="keep to a ticket panel's limit: refuse more than 8 lots or 8 calls")
     place.add_argument("--flow", metavar="FILE", help="write the flow too: the units of all pairs, 32-bit numbers, lot by lot")
+    place.add_argument("--html", metavar="FILE", help="write a page for the browser too: lots by calls, what is left and what lacks")
     encode = command("encode", _encode, "write book.clb and amounts.cla")
     encode.add_argument("--order", action="store_true", help="find an order and write order.clo too")
     encode.add_argument("--to", metavar="FOLDER", default=".", help="where to write (default: this folder)")
@@ -269,6 +250,7 @@ def _parser() -> argparse.ArgumentParser:
         added.add_argument("files", metavar="FILES", nargs="+", help="PAIRS LOTS CALLS, or BOOK AMOUNTS")
     show = command("show", _show, "show a book, order, amounts or flow file as a table")
     show.add_argument("--book", metavar="BOOK", help="the book of a flow file, which has no mark of its own")
+    show.add_argument("--amounts", metavar="AMOUNTS", help="its amounts, to show what is left in the lots and what the calls lack")
     show.add_argument("file", metavar="FILE")
     check = command("check", _check, "read a book, and check orders and amounts against it")
     check.add_argument("book", metavar="BOOK")
@@ -282,6 +264,8 @@ def main(arguments: Optional[List[str]] = None) -> int:
     options = parser.parse_args(arguments)
     if options.command in ("place", "encode", "dimacs") and len(options.files) not in (2, 3):
         parser.error("FILES are three tables (PAIRS LOTS CALLS) or two files (BOOK AMOUNTS)")
+    if options.command == "place" and options.html == options.output == "-":
+        parser.error("the page and the CSV cannot both go to standard output: name a file by --html or by -o")
     try:
         return int(options.run(options))
     except Exception as error:  # of whatever kind: status 1 is for a call that lacks units

@@ -9,12 +9,8 @@ from typing import Any, NamedTuple, Optional, Sequence, Tuple
 from . import _library
 from ._library import BytesLike, Writable
 from .files import Costs, amounts_bytes, book_bytes
+from .limits import FLOW_MAX, ORDER_MAX
 from .placing import Placing, Verdict
-
-ORDER_MAX = 2055  # bytes of the longest order that the finder writes
-FLOW_MAX = 1024  # entries of the largest flow
-PANEL_SIDE_MAX = 8  # lots, and calls, that a ticket panel shows
-PANEL_FLOW_MAX = 64  # entries of the largest flow of a ticket panel
 
 
 class Counts(NamedTuple):
@@ -126,10 +122,10 @@ def check_order(book: BytesLike, order: BytesLike) -> int:
         >>> book = book_bytes([[1, 2], [3, 5]])
         >>> check_order(book, order_bytes([(0, 1), (1, 0), (0, 0), (1, 1)]))
         4
-        >>> check_order(book, order_bytes([(0, 0), (0, 1), (1, 0), (1, 1)]))
+        >>> check_order(book, order_bytes([(0, 0), (0, 1), (1, 0), (1, 1)]))  # doctest: +ELLIPSIS
         Traceback (most recent call last):
         ...
-        placer.refused.Refused: refused 12: lot 0, call 0 comes too early in the order: its cost and that of lot 1, call 1 sum too high
+        placer.refused.Refused: refused 12: the order has (i, j) before (i, l) and (k, j), which cost less ... [i 0, j 0, k 1, l 1]
     """
     return _library.call("check_order", _library.lend(book), _library.lend(order))[1][0]
 

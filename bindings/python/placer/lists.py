@@ -3,11 +3,11 @@
 from __future__ import annotations
 
 import struct
-from typing import Collection, List, NamedTuple, Optional, Tuple
+from typing import Collection, List, NamedTuple, Optional, Sequence, Tuple
 
 from ._library import BytesLike
 from .entry_points import read_book
-from .refused import Cause, Refused
+from .refused import Cause, File, Refused
 
 
 def numbers(data: bytes, signed: bool = False) -> List[int]:
@@ -15,22 +15,22 @@ def numbers(data: bytes, signed: bool = False) -> List[int]:
     return list(struct.unpack(f"<{len(data) // 4}{'i' if signed else 'I'}", data))
 
 
-def _opened(data: BytesLike, mark: bytes, versions: Collection[int] = (1,)) -> bytes:
+def _opened(name: File, data: BytesLike, mark: bytes, versions: Collection[int] = (1,)) -> bytes:
     """Return the bytes of a file that opens with a mark and one of the versions."""
     file = memoryview(data).tobytes()
     if len(file) < 7:
-        raise Refused(Cause.UNDER_SEVEN)
+        raise Refused(Cause.UNDER_SEVEN, file=name)
     if file[:3] != mark:
-        raise Refused(Cause.MARK_DIFFERS)
+        raise Refused(Cause.MARK_DIFFERS, file=name)
     if int.from_bytes(file[3:5], "little") not in versions:
-        raise Refused(Cause.VERSION_NOT_ONE)
+        raise Refused(Cause.VERSION_NOT_ONE, file=name)
     return file
 
 
-def _fields(file: bytes, length: int) -> bytes:
+def _fields(name: File, file: bytes, length: int) -> bytes:
     """Return what follows the opening, `length` bytes."""
     if len(file) != 7 + length:
-        raise Refused(Cause.ENDS_EARLY if len(file) < 7 + length else Cause.BYTES_AFTER)
+        raise Refused(Cause.ENDS_EARLY if len(file) < 7 + length else Cause.BYTES_AFTER, file=name)
     return file[7:]
 
 
@@ -71,8 +71,8 @@ def order_pairs(order: BytesLike) -> List[Tuple[int, int]]:
         >>> order_pairs(order_bytes([(0, 1), (0, 0)]))
         [(0, 1), (0, 0)]
     """
-    file = _opened(order, b"CLO")
-    flat = _fields(file, 2 * (file[5] + 256 * file[6]))
+    file = _opened("order", order, b"CLO")
+    flat = _fields("order", file, 2 * (file[5] + 256 * file[6]))
     return list(zip(flat[::2], flat[1::2]))
 
 
@@ -97,6 +97,17 @@ class Amounts(NamedTuple):
             raise Refused(Cause.RESERVE_EXCEEDS_LOT)
         return reduced
 
+    def remains(self, flow: Sequence[Sequence[int]]) -> Tuple[List[int], List[int]]:
+        """Return what each lot has left after a flow, reserves taken off, and what each call still lacks.
+
+        Examples:
+            >>> Amounts([7, 4], [3, 6], [1, 0]).remains([[0, 5], [3, 0]])
+            ([1, 1], [0, 1])
+        """
+        left = [has - sum(row) for has, row in zip(self.reduced, flow)]
+        lacks = [asks - sum(row[call] for row in flow) for call, asks in enumerate(self.calls)]
+        return left, lacks
+
 
 def amounts_lists(amounts: BytesLike) -> Amounts:
     """Return what the lots hold, what the calls ask for, and the reserves, held against no book.
@@ -112,7 +123,7 @@ def amounts_lists(amounts: BytesLike) -> Amounts:
         >>> amounts, amounts.reduced
         (Amounts(lots=[7, 4], calls=[3, 6], reserves=[2, 0]), [5, 4])
     """
-    file = _opened(amounts, b"CLA", (1, 2))
+    file = _opened("amounts", amounts, b"CLA", (1, 2))
     lots, both = file[5], file[5] + file[6]
-    fields = numbers(_fields(file, 4 * (both + lots * (file[3] == 2))))
+    fields = numbers(_fields("amounts", file, 4 * (both + lots * (file[3] == 2))))
     return Amounts(fields[:lots], fields[lots:both], fields[both:] if file[3] == 2 else None)

@@ -10,12 +10,15 @@ from typing import Any, Callable, Dict, Iterator, List, Optional, Sequence, Tupl
 
 from .entry_points import read_amounts, read_book
 from .files import amounts_bytes, book_bytes
+from .limits import AMOUNT_MAX, CALLS_MAX, COST_MAX, COST_MIN, LOTS_MAX
 from .refused import Cause, Refused
 
-MOST = 32  # lots or calls
-COST_MOST = 1_000_000
-AMOUNT_MOST = 1_000_000_000
 SOLVER = "use a flow solver on what `placer dimacs` writes"
+
+
+def named(path: str) -> str:
+    """Return a path as it is told."""
+    return "standard input" if path == "-" else path
 
 
 class BadInput(Exception):
@@ -23,8 +26,7 @@ class BadInput(Exception):
 
     def __init__(self, path: str, line: Optional[int], cause: str) -> None:
         """Name the file, the line and the cause."""
-        where = "standard input" if path == "-" else path
-        super().__init__(f"{where}:{line}: {cause}" if line else f"{where}: {cause}")
+        super().__init__(f"{named(path)}:{line}: {cause}" if line else f"{named(path)}: {cause}")
 
 
 @dataclass(frozen=True)
@@ -38,11 +40,12 @@ class Problem:
 
 
 def told(path: str, call: Callable[..., Any], *arguments: Any) -> Any:
-    """Return what a call of the library returns; its refusal is told of this file."""
+    """Return what a call of the library returns; its refusal is told of this file, whose path stands for its kind."""
     try:
         return call(*arguments)
     except Refused as refused:
-        raise BadInput(path, None, f"{refused}; {SOLVER}" if refused.cause is Cause.NO_ORDER else str(refused)) from None
+        cause = str(Refused(refused.number, refused.values))
+        raise BadInput(path, None, f"{cause}; {SOLVER}" if refused.cause is Cause.NO_ORDER else cause) from None
 
 
 def contents(path: str) -> bytes:
@@ -88,21 +91,22 @@ def _table(path: str, *headers: str) -> Tuple[str, Iterator[Tuple[int, List[str]
     raise BadInput(path, 1, f"the header line must be {' or '.join(headers)}")
 
 
-def _whole(path: str, line: int, what: str, text: str, most: int, number: Cause, signed: bool = False, of: str = "") -> int:
-    """Return a whole number of 0 to `most`, of which `of` says what it is; if signed, of as far below 0 too."""
+def _whole(path: str, line: int, what: str, text: str, most: int, number: Cause, least: int = 0, of: str = "") -> int:
+    """Return a whole number of `least` to `most`, of which `of` says what it is; one with a minus only if `least` is below 0."""
     whole = text.strip()
-    below = signed and whole.startswith("-")
+    below = least < 0 and whole.startswith("-")
     digits = whole[1:] if below else whole
     if not (digits.isascii() and digits.isdigit()):
         raise BadInput(path, line, f"the {what} {text!r} is not a whole number")
     digits = digits.lstrip("0") or "0"  # `int` takes no more than some thousands of digits
-    if len(digits) > len(str(most)) or int(digits) > most:
-        passed = f"below -{most:,}" if below else f"above {most:,}{of}"
+    bound = -least if below else most
+    if len(digits) > len(str(bound)) or int(digits) > bound:
+        passed = f"below {least:,}" if below else f"above {most:,}{of}"
         raise BadInput(path, line, f"the {what} {whole} is {passed} (refusal {number.value})")
     return -int(digits) if below else int(digits)
 
 
-def _amounts(path: str, what: str, *headers: str) -> Tuple[Dict[str, int], Optional[List[int]]]:
+def _amounts(path: str, what: str, most: int, *headers: str) -> Tuple[Dict[str, int], Optional[List[int]]]:
     """Return the amount of each lot or call by its name, in order of first appearance, and the reserves, None without such a column.
 
     A table that is its header line alone has no lots or calls.
@@ -113,9 +117,9 @@ def _amounts(path: str, what: str, *headers: str) -> Tuple[Dict[str, int], Optio
     for line, (name, amount, *reserve) in rows:
         if name in amounts:
             raise BadInput(path, line, f"the {what} {name!r} stands here a second time")
-        if len(amounts) == MOST:
-            raise BadInput(path, line, f"more than {MOST} {what}s (refusal {Cause.COUNT_OUTSIDE.value})")
-        has = amounts[name] = _whole(path, line, "amount", amount, AMOUNT_MOST, Cause.AMOUNT_TOO_HIGH)
+        if len(amounts) == most:
+            raise BadInput(path, line, f"more than {most} {what}s (refusal {Cause.COUNT_OUTSIDE.value})")
+        has = amounts[name] = _whole(path, line, "amount", amount, AMOUNT_MAX, Cause.AMOUNT_TOO_HIGH)
         for text in reserve:  # one, or none without such a column
             whole, of = text if text.strip() else "0", f", what {name!r} holds"
             reserves.append(_whole(path, line, "reserve", whole, has, Cause.RESERVE_EXCEEDS_LOT, of=of))
@@ -124,7 +128,8 @@ def _amounts(path: str, what: str, *headers: str) -> Tuple[Dict[str, int], Optio
 
 def _from_tables(pairs: str, lots: str, calls: str) -> Problem:
     """Return the problem of the three tables; a pair that is absent is not eligible, and a reserve that is left out is 0."""
-    (has, reserves), (asks, _) = _amounts(lots, "lot", "lot,amount,reserve"), _amounts(calls, "call")
+    has, reserves = _amounts(lots, "lot", LOTS_MAX, "lot,amount,reserve")
+    asks, _ = _amounts(calls, "call", CALLS_MAX)
     costs: Dict[Tuple[str, str], int] = {}
     for line, (lot, call, cost) in _table(pairs, "lot,call,cost")[1]:
         for what, name, path, names in (("lot", lot, lots, has), ("call", call, calls, asks)):
@@ -132,7 +137,7 @@ def _from_tables(pairs: str, lots: str, calls: str) -> Problem:
                 raise BadInput(pairs, line, f"the {what} {name!r} is not in {path}")
         if (lot, call) in costs:
             raise BadInput(pairs, line, f"the pair {lot!r}, {call!r} stands here a second time")
-        costs[lot, call] = _whole(pairs, line, "cost", cost, COST_MOST, Cause.COST_TOO_HIGH, signed=True)
+        costs[lot, call] = _whole(pairs, line, "cost", cost, COST_MAX, Cause.COST_TOO_HIGH, COST_MIN)
     book = book_bytes([[costs.get((lot, call)) for call in asks] for lot in has], len(asks))
     return Problem(list(has), list(asks), book, amounts_bytes(list(has.values()), list(asks.values()), reserves))
 

@@ -3,28 +3,26 @@
 import contextlib
 import io
 import os
-import tempfile
 from pathlib import Path
 from unittest import mock
 
 import placer
 from placer.cli import main
-from support import Case
+from support import FolderCase
 
 ROOT = Path(placer.__file__).resolve().parents[3]
 TABLES = ["pairs.csv", "lots.csv", "calls.csv"]
 PAIRS, LOTS, CALLS = ((ROOT / "examples" / "csv" / name).read_text() for name in TABLES)
 
 
-class CommandCase(Case):
+class CommandCase(FolderCase):
     """A test case in a folder that holds the tables of F1."""
 
     def setUp(self):
         """Write the tables, and go there."""
-        folder = tempfile.TemporaryDirectory()
-        self.addCleanup(folder.cleanup)
+        super().setUp()
         self.addCleanup(os.chdir, os.getcwd())
-        os.chdir(folder.name)
+        os.chdir(self.folder)
         self.write(dict(zip(TABLES, (PAIRS, LOTS, CALLS))))
 
     def write(self, files):

@@ -1,6 +1,8 @@
-"""What the tests share: the files of F1, and a test case that knows refusals."""
+"""What the tests share: the files of F1, and test cases with a check for refusals, and with a folder."""
 
+import tempfile
 import unittest
+from pathlib import Path
 
 from placer import Refused, amounts_bytes, book_bytes, order_bytes
 
@@ -24,3 +26,13 @@ class Case(unittest.TestCase):
             call(*arguments)
         self.assertEqual((caught.exception.number, caught.exception.values), (number, values))
         self.assertEqual(arguments[-1], before)
+
+
+class FolderCase(Case):
+    """A test case with a folder of its own."""
+
+    def setUp(self):
+        """Make the folder."""
+        folder = tempfile.TemporaryDirectory()
+        self.addCleanup(folder.cleanup)
+        self.folder = Path(folder.name)

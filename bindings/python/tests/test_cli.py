@@ -167,9 +167,9 @@ class Command(CommandCase):
         solver = "use a flow solver on what `placer dimacs` writes"
         least = f"place without --idle, or, for the least cost, {solver}"
         for start, instead, names in [
-            ("spare.cla: refused 18: the calls ask for more units", "place without --idle", ["spare.clb", "spare.cla"]),
+            ("spare.cla: refused 18: the calls' total exceeds the lots' total", "place without --idle", ["spare.clb", "spare.cla"]),
             ("calls.csv: refused 19: the book already has 32 calls", least, TABLES),
-            ("none.clb: refused 13: with an idle call no order", least, ["none.clb", "none.cla"]),
+            ("none.clb: refused 13: no order of this book (with", f"the book alone has one: {least}", ["none.clb", "none.cla"]),
             ("neither.clb: refused 13: no order", solver, ["neither.clb", "neither.cla"]),
         ]:
             status, out, message = self.run_it("place", "--idle", *names)
@@ -210,8 +210,10 @@ class Command(CommandCase):
             ("none.clb: refused 13: no order", ["encode", "--order", "none.clb", "zeros.cla"]),
             ("zeros.cla: refused 15:", ["place", "book.clb", "zeros.cla"]),
             ("wrong.clo: refused 12:", ["place", "book.clb", "amounts.cla", "--order", "wrong.clo"]),
-            ("wrong.clo: refused 2:", ["check", "wrong.clo"]),
-            ("third.clb: refused 3: the file's version is not 1 (of a book or amounts: neither", ["check", "third.clb"]),
+            ("wrong.clo: refused 2: a file does not open with its mark\n", ["check", "wrong.clo"]),
+            ("amounts.cla: refused 2: a file does not open with its mark\n", ["place", "amounts.cla", "book.clb"]),
+            ("book.clb: refused 2: a file does not open with its mark\n", ["check", "book.clb", "book.clb"]),
+            ("third.clb: refused 3: a file's version is not 1 (of a book or amounts: neither 1 nor 2)\n", ["check", "third.clb"]),
             ("amounts.cla: refused 15:", ["check", "none.clb", "amounts.cla"]),
             ("pairs.csv: neither a book", ["show", "pairs.csv"]),
             ("pairs.csv: a flow of this book has 16 bytes", ["show", "pairs.csv", "--book", "book.clb"]),
@@ -237,7 +239,7 @@ class Command(CommandCase):
             ("amounts.cla", "amounts: the lots have 9 units, the calls ask for 9", "call       1       6\n"),
             ("flow", "flow: 9 units", "       1  3  1\n"),
         ]:
-            status, out, _ = self.run_it("show", name, "--book", "book.clb")
+            status, out, _ = self.run_it("show", name, *(["--book", "book.clb"] if name == "flow" else []))
             self.assertEqual((status, out[: len(title)], out[-len(last) :]), (0, title, last))
 
     def test_dimacs(self):

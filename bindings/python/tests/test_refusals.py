@@ -1,5 +1,6 @@
 """Every refusal by its number, with its values; the lent buffers keep their contents."""
 
+import copy
 import pickle
 import random
 import unittest
@@ -153,14 +154,34 @@ class Refusals(Case):
                 self.assertEqual(flow.tolist(), [7] * 4)
 
     def test_exception(self):
-        """The exception is a ValueError with a sentence, and survives pickling."""
-        for cause in Cause:
-            error = pickle.loads(pickle.dumps(Refused(cause, (3, 1, 2, 4))))
-            self.assertIsInstance(error, ValueError)
-            self.assertIs(error.cause, cause)
-            self.assertRegex(str(error), rf"^refused {cause.value}: \w")
+        """The exception is a ValueError with a sentence, and survives pickling and copying with its values and its file."""
+        for number in [*Cause, 22, 99]:
+            refused = Refused(number, (3, 1, 2, 4), "amounts")
+            for error in (pickle.loads(pickle.dumps(refused)), copy.copy(refused), copy.deepcopy(refused)):
+                self.assertIsInstance(error, ValueError)
+                self.assertEqual((str(error), vars(error)), (str(refused), vars(refused)))
+                self.assertRegex(str(error), rf"^refused {int(number)}: \w")
         self.assertEqual([len(Refused(cause, (0,) * 4).values) for cause in Cause], [0, 0, 0, 0, 1, 0, 2, 0, 1, 1, 4, 4] + [0] * 9)
-        self.assertRaises(ValueError, Refused, 22)
+
+    def test_details(self):
+        """After the sentence stand the values, or the file where the number does not tell it."""
+        for refused, end in [
+            (Refused(5, (2,)), "does not have [lot 2]"),
+            (Refused(7, (0, 3, 9)), "below -1,000,000) [lot 0, call 3]"),
+            (Refused(9, (5,)), "not eligible [place 5]"),
+            (Refused(11, (0, 0, 1, 1), "book"), "(k, l) is not eligible [i 0, j 0, k 1, l 1]"),
+            (Refused(8, (1,), "order"), "after its last field [order]"),
+            (Refused(8), "after its last field"),
+            (Refused(13, file="amounts"), "is good for all amounts"),
+            (Refused(17, (1,), "book"), "the buffer lent is too short"),
+        ]:
+            self.assertTrue(str(refused).endswith(end), refused)
+
+    def test_unknown(self):
+        """A number that only a later library has is told as none of this one's."""
+        unknown = Refused(99, (1, 2), "book")
+        self.assertEqual((unknown.number, unknown.cause, unknown.values, unknown.file), (99, None, (), None))
+        self.assertEqual((unknown.sentence, str(unknown)), ("not a number of this library", "refused 99: not a number of this library"))
 
 
 if __name__ == "__main__":
