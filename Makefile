@@ -44,7 +44,7 @@ install: all build/place
 	        > $(DESTDIR)$(LIBDIR)/cmake/placer/$${file#packaging/}; \
 	done
 	install -m 644 bindings/python/placer/*.py bindings/python/placer/py.typed $(DESTDIR)$(PREFIX)/share/placer/python/placer
-	sed 's|@LIBDIR@|$(call way,$(PREFIX)/bin,$(LIBDIR))|' bindings/python/launcher.py > $(DESTDIR)$(PREFIX)/bin/placer
+	sed 's|@LIBRARY@|$(call way,$(PREFIX)/bin,$(LIBDIR))/libplacer.so.$(MAJOR)|' bindings/python/launcher.py > $(DESTDIR)$(PREFIX)/bin/placer
 	chmod 755 $(DESTDIR)$(PREFIX)/bin/placer
 	for page in man/*.[13]; do install -D -m 644 $$page $(DESTDIR)$(PREFIX)/share/man/man$${page##*.}/$${page#man/}; done
 

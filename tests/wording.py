@@ -45,7 +45,7 @@ def in_sequence(where: str, wanted: List[str], sources: List[List[str]]) -> Iter
 def sentences(face: str, rows: Rows, literals: List[List[str]]) -> Iterator[str]:
     """Look for the refusals' sentences among the literals of a binding's sources, and for the one of other numbers."""
     yield from in_sequence(f"{face}'s sentences", [row[3] for row in rows[1:]], literals)
-    yield from in_sequence(f"{face}'s other numbers", [UNKNOWN], [[word[-len(UNKNOWN) :] for word in source] for source in literals])
+    yield from in_sequence(f"{face}'s other numbers", [UNKNOWN], [[UNKNOWN for word in source if UNKNOWN in word] for source in literals])
 
 
 def header(rows: Rows) -> Iterator[str]:

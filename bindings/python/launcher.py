@@ -1,5 +1,5 @@
 #!/usr/bin/env python3
-"""The command `placer` as `make install` installs it at PREFIX/bin, which fills in the folder of the library, seen from there."""
+"""The command `placer` as `make install` installs it at PREFIX/bin, which fills in the path of the library, seen from there."""
 
 import os
 import sys
@@ -8,7 +8,7 @@ from pathlib import Path
 HERE = Path(__file__).resolve().parent
 sys.path.insert(0, str(HERE.parent / "share" / "placer" / "python"))
 if not os.environ.get("PLACER_LIBRARY"):
-    os.environ["PLACER_LIBRARY"] = os.path.normpath(HERE / "@LIBDIR@" / "libplacer.so")
+    os.environ["PLACER_LIBRARY"] = os.path.normpath(HERE / "@LIBRARY@")
 
 from placer.cli import main
 

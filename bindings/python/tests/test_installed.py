@@ -140,9 +140,9 @@ class Launcher(InstalledCase):
         shutil.copytree(PYTHON / "placer", package, ignore=shutil.ignore_patterns("__pycache__"))
         for name in ("bin", "lib64"):
             (self.prefix / name).mkdir()
-        shutil.copy(LIBRARY, self.prefix / "lib64" / "libplacer.so")
+        shutil.copy(LIBRARY, self.prefix / "lib64" / "libplacer.so.1")
         self.command = self.prefix / "bin" / "placer"
-        self.command.write_text((PYTHON / "launcher.py").read_text().replace("@LIBDIR@", "../lib64"))
+        self.command.write_text((PYTHON / "launcher.py").read_text().replace("@LIBRARY@", "../lib64/libplacer.so.1"))
         self.command.chmod(0o755)
 
     def test_launched(self):
@@ -154,9 +154,9 @@ class Launcher(InstalledCase):
         tables = [CSV / table for table in TABLES]
         ran = run(self.command, "place", *tables, folder=self.folder, check=False, PLACER_LIBRARY="/nowhere/libplacer.so")
         self.assertEqual((ran.returncode, ran.stdout, "/nowhere/libplacer.so" in ran.stderr), (2, "", True))
-        (self.prefix / "lib64" / "libplacer.so").unlink()
+        (self.prefix / "lib64" / "libplacer.so.1").unlink()
         ran = run(self.command, "place", *tables, folder=self.folder, check=False)
-        self.assertIn(str(self.prefix.resolve() / "lib64" / "libplacer.so"), ran.stderr)
+        self.assertIn(str(self.prefix.resolve() / "lib64" / "libplacer.so.1"), ran.stderr)
 
 
 if __name__ == "__main__":
