@@ -5,6 +5,7 @@ use crate::*;
 
 #[cfg(feature = "std")]
 mod damaged;
+mod examples;
 mod idle;
 mod new_desks;
 mod panel;
