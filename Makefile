@@ -8,6 +8,7 @@ VERSION := $(shell sed -n 's/^.define PLACER_VERSION "\([0-9.]*\)".*/\1/p' inclu
 MAJOR := $(firstword $(subst ., ,$(VERSION)))
 RELEASE := placer-$(VERSION)-linux-x86_64
 UNPACKED := build/release/$(RELEASE)
+PAGES := FORMATS.md refusals.tsv SCOPE.md WHEN-TO-USE.md BENCHMARKS.md benchmarks.svg
 SOURCES := $(shell find crates -name '*.rt' -o -name '*.antt') crates.txt
 
 all: build/libplacer.a build/libplacer.so
@@ -31,14 +32,16 @@ build/place: $(SOURCES)
 way = $(shell realpath -m -s --relative-to=$(1) $(2))
 
 install: all build/place
-	install -d $(addprefix $(DESTDIR)$(PREFIX)/,bin include share/placer/python/placer) $(addprefix $(DESTDIR)$(LIBDIR)/,pkgconfig cmake/placer)
+	install -d $(addprefix $(DESTDIR)$(PREFIX)/,bin include share/placer/python/placer)
+	install -d $(addprefix $(DESTDIR)$(LIBDIR)/,pkgconfig cmake/placer)
 	install -m 755 build/place $(DESTDIR)$(PREFIX)/bin
 	install -m 644 include/*.h $(DESTDIR)$(PREFIX)/include
 	install -m 644 build/libplacer.a $(DESTDIR)$(LIBDIR)
 	install -m 755 build/libplacer.so $(DESTDIR)$(LIBDIR)/libplacer.so.$(VERSION)
 	ln -sf libplacer.so.$(VERSION) $(DESTDIR)$(LIBDIR)/libplacer.so.$(MAJOR)
 	ln -sf libplacer.so.$(MAJOR) $(DESTDIR)$(LIBDIR)/libplacer.so
-	sed 's|@PREFIX@|$(PREFIX)|; s|@LIBDIR@|$(LIBDIR)|; s|@VERSION@|$(VERSION)|' packaging/placer.pc.in > $(DESTDIR)$(LIBDIR)/pkgconfig/placer.pc
+	sed 's|@PREFIX@|$(PREFIX)|; s|@LIBDIR@|$(LIBDIR)|; s|@VERSION@|$(VERSION)|' packaging/placer.pc.in \
+	    > $(DESTDIR)$(LIBDIR)/pkgconfig/placer.pc
 	for file in packaging/*.cmake; do \
 	    sed 's|@INCLUDE@|$(call way,$(LIBDIR)/cmake/placer,$(PREFIX)/include)|; s|@VERSION@|$(VERSION)|; s|@MAJOR@|$(MAJOR)|' $$file \
 	        > $(DESTDIR)$(LIBDIR)/cmake/placer/$${file#packaging/}; \
@@ -51,20 +54,22 @@ install: all build/place
 # A release is an installation that can be unpacked anywhere, with the Rust crate, examples and pages to read; the same sources make the
 # same bytes.
 dist: all build/place
-	rm -rf build/release
+	rm -rf build/release dist/placer-*.tar.gz
 	$(MAKE) -s install DESTDIR=$(CURDIR)/build/release PREFIX=/$(RELEASE) LIBDIR=/$(RELEASE)/lib
 	sed -i 's|/$(RELEASE)|$${pcfiledir}/../..|' $(UNPACKED)/lib/pkgconfig/placer.pc
 	mkdir -p $(UNPACKED)/share/doc/placer/examples $(UNPACKED)/share/placer/rust
 	cp -r $(addprefix bindings/rust/,Cargo.toml build.rs src examples tests) $(UNPACKED)/share/placer/rust
 	cp -r $(addprefix examples/,c csv python) $(UNPACKED)/share/doc/placer/examples
-	cp $(addprefix docs/,FORMATS.md refusals.tsv SCOPE.md WHEN-TO-USE.md BENCHMARKS.md benchmarks.svg) CHANGELOG.md $(UNPACKED)/share/doc/placer
+	cp CHANGELOG.md $(addprefix docs/,$(PAGES)) $(UNPACKED)/share/doc/placer
 	cp packaging/README.md LICENSE $(UNPACKED)
 	rt version > $(UNPACKED)/PROVED-BY
 	cd $(UNPACKED) && find . -type f ! -name SHA256SUMS | LC_ALL=C sort | xargs sha256sum > SHA256SUMS
 	mkdir -p dist
-	tar -C build/release --sort=name --mtime=@0 --owner=0 --group=0 --numeric-owner --mode=a+rX,u+w,go-w -I 'gzip -n9' -cf dist/$(RELEASE).tar.gz $(RELEASE)
+	tar -C build/release --sort=name --mtime=@0 --owner=0 --group=0 --numeric-owner --mode=a+rX,u+w,go-w -I 'gzip -n9' \
+	    -cf dist/$(RELEASE).tar.gz $(RELEASE)
 
 wheel: build/libplacer.so
+	rm -f dist/placer-*.whl
 	python3 bindings/python/backend.py dist
 
 test:

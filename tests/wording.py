@@ -106,10 +106,18 @@ def versions() -> Iterator[str]:
     yield from differing("version", dict.fromkeys(found, between(text, '#define PLACER_VERSION "', '"')), found)
 
 
+def which_file() -> Iterator[str]:
+    """Look for the three lines that tell the refused file in C, as tests/placer_files.c tries them, in the header and the man page."""
+    lines = between(text_of("tests/placer_files.c"), "file_with_order(void)\n{", "return file;").split()
+    for name in ("include/placer.h", "man/placer.3"):
+        if " ".join(lines) not in " ".join(re.sub(r"^ \*", "", text_of(name), flags=re.M).split()):
+            yield f"{name}: not the lines of tests/placer_files.c that tell which file was refused"
+
+
 def main() -> int:
     """Print what differs, or that nothing does."""
     rows = [line.split("\t") for line in text_of("docs/refusals.tsv").splitlines()[1:]]
-    lines = [*header(rows), *tables(rows), *rust(rows), *python(rows), *versions()]
+    lines = [*header(rows), *tables(rows), *rust(rows), *python(rows), *versions(), *which_file()]
     same = f"{len(rows) - 1} refusals, the same in C, Rust, Python, FORMATS.md and the man page, and one version"
     for line in lines or [same]:
         print(f"wording: {line}")

@@ -1,5 +1,5 @@
 #!/usr/bin/env python3
-"""The command `placer` as `make install` installs it at PREFIX/bin, which fills in the path of the library, seen from there."""
+"""The command `placer`, as it is installed at PREFIX/bin: `make install` fills in the path of the library, seen from there."""
 
 import os
 import sys

@@ -52,6 +52,8 @@ def _paths() -> Iterator[str]:
     folders = [package]
     if package.parts[-3:] == ("bindings", "python", "placer"):
         folders.append(package.parents[2] / "build")
+    if package.parts[-4:] == ("share", "placer", "python", "placer"):
+        folders.append(package.parents[3] / "lib")
     yield from (str(folder / NAME) for folder in folders if (folder / NAME).exists())
     yield ctypes.util.find_library("placer") or NAME
 
@@ -66,7 +68,7 @@ def load(path: str) -> ctypes.CDLL:
     try:
         loaded = ctypes.CDLL(path)
     except OSError as error:
-        raise ImportError(f"the placer library cannot be loaded ({error}); build it with `make`, or name it in PLACER_LIBRARY") from error
+        raise ImportError(f"the placer library cannot be loaded ({error}); build it with `make` in the repository, or name it in PLACER_LIBRARY") from error
     of = "a version before 1.0.0"
     try:
         _declare(loaded, "version", ctypes.c_uint32, [])
@@ -84,7 +86,7 @@ def load(path: str) -> ctypes.CDLL:
 
 @functools.lru_cache(maxsize=None)
 def library() -> ctypes.CDLL:
-    """Return the loaded library: that of PLACER_LIBRARY, beside the package, in the repository's build folder, or the system's."""
+    """Return the loaded library: that of PLACER_LIBRARY, beside the package, of the repository or the release, or the system's."""
     return load(os.environ.get("PLACER_LIBRARY") or next(_paths()))
 
 

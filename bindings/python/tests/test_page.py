@@ -9,6 +9,7 @@ import sys
 import tempfile
 import unittest
 import zlib
+from collections import Counter
 from pathlib import Path
 
 import placer
@@ -91,6 +92,11 @@ class Page(CommandCase):
         self.assertEqual(cells.title, f"{placing.verdict.name.capitalize()}: {placing.units:,} units, cost {placing.cost:,}")
         self.assertEqual((cells.open, cells.count("caption"), cells.count("th", scope="row")), ([], 1, len(lots) + 2))
         self.assertEqual(cells.count("th", scope="col"), len(calls) + 3 + (amounts.reserves is not None))
+        left, lacks = amounts.remains(placing.flow)
+        full, placed = left.count(0) + lacks.count(0), sum(map(bool, sum(placing.flow, ())))
+        self.assertEqual(cells.count("td", **{"class": "lacking"}), len(lacks) - lacks.count(0))
+        self.assertEqual([cells.count(tag, **{"class": "full"}) for tag in ("td", "th")], [full, full])
+        self.assertEqual(cells.count("td", **{"class": "placed"}), placed)
 
     def test_cells(self):
         """Every pair's units and cost, and what lots and calls hold, want and have left: of each verdict, with gaps and rebates."""
@@ -181,30 +187,30 @@ class InBrowser(CommandCase):
     """The page in headless Chromium."""
 
     def test_shown(self):
-        """The cells that the browser holds are those of the placing, and what it draws is a picture."""
+        """The cells that the browser holds are those of the placing, and it draws them: placed, full and lacking in their colours."""
         if BROWSER is None:
             print("SKIPPED: the page in a browser, no chromium on this machine", file=sys.stderr)
             self.skipTest("no chromium")
         lots, calls = ["Bund & <b>2031</b>", "OAT 2029", "שטר חוב"], ["Clearing A", '"B"']
-        self.write({"lots.csv": f"lot,amount,reserve\n{lots[0]},5,2\n{lots[1]},4,\n{lots[2]},1,1\n"})
-        self.write({"calls.csv": 'call,amount\nClearing A,3\n"""B""",2\n'})
+        self.write({"lots.csv": f"lot,amount,reserve\n{lots[0]},5,2\n{lots[1]},4,\n{lots[2]},3,1\n"})
+        self.write({"calls.csv": 'call,amount\nClearing A,3\n"""B""",6\n'})
         pairs = f'{lots[0]},Clearing A,3\n{lots[0]},"""B""",5\n{lots[1]},Clearing A,1\n{lots[1]},"""B""",2\n'
         self.write({"pairs.csv": f"lot,call,cost\n{pairs}"})
-        self.run_it("place", "--idle", "--html", "page.html", *TABLES)
-        size = (400, 300)
+        self.run_it("place", "--html", "page.html", *TABLES)
+        size = (640, 480)
         with tempfile.TemporaryDirectory() as profile:
             command = [BROWSER, "--headless", "--no-sandbox", "--disable-gpu", "--no-first-run", f"--user-data-dir={profile}"]
             command += ["--dump-dom", "--screenshot=page.png", f"--window-size={size[0]},{size[1]}", Path("page.html").resolve().as_uri()]
             ran = subprocess.run(command, capture_output=True, timeout=60, check=True)
-        costs, amounts = [[3, 5], [1, 2], [None, None]], placer.Amounts([5, 4, 1], [3, 2], [2, 0, 1])
-        placing = placer.place(costs, *amounts, idle=True)
+        costs, amounts = [[3, 5], [1, 2], [None, None]], placer.Amounts([5, 4, 3], [3, 6], [2, 0, 1])
         cells = Cells(ran.stdout.decode())
-        self.assertEqual(cells.rows, expected(lots, calls, costs, amounts, placing))
-        self.assertEqual(cells.title, "Covered: 5 units, cost 9")
+        self.assertEqual(cells.rows, expected(lots, calls, costs, amounts, placer.place(costs, *amounts)))
+        self.assertTrue(cells.title.startswith("Short: 7 units"))
         *drawn, rows = pixels(Path("page.png").read_bytes())
         self.assertEqual(tuple(drawn), size)
-        self.assertGreater(len({bytes(row) for row in rows}), 20)
-        self.assertGreater(len({row[at : at + 3] for row in rows for at in range(0, len(row), len(row) // size[0])}), 4)
+        shades = Counter(row[at : at + 3] for row in rows for at in range(0, len(row), len(row) // size[0]))
+        for colour in ("dfeaf8", "d9efde", "fde3d3"):  # of placed units, of full lots and calls, of a call that lacks units
+            self.assertGreater(shades[bytes.fromhex(colour)], 300, colour)
 
 
 if __name__ == "__main__":

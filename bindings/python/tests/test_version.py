@@ -48,33 +48,41 @@ class Loading(FolderCase):
         code.write_text(source)
         subprocess.run(["cc", "-shared", "-fPIC", code, *flags, "-o", self.path], check=True, capture_output=True)
 
+    def make_whole(self, number):
+        """Make the real library under another version."""
+        linked = "-Wl,--allow-multiple-definition", "-Wl,--whole-archive", ARCHIVE, "-Wl,--no-whole-archive"
+        self.make(f"unsigned placer_version(void) {{ return {number}; }}", *linked)
+
+    def check_refused(self, told):
+        """Check that the library is not loaded, and no wheel made with it; return what is said."""
+        for start, arguments in [("ImportError", ["-c", SCRIPT]), ("the wheel was not written", [BACKEND, self.folder / "out"])]:
+            out, error = self.run_with(*arguments)
+            self.assertEqual(out, "")
+            self.assertTrue(error.startswith(f"{start}: the library {self.path} is of {told}"), error)
+        return error
+
     def run_with(self, *arguments):
         """Run Python with the library; return what it prints, and the last line of what it says."""
         environment = {**os.environ, "PLACER_LIBRARY": str(self.path), "PYTHONPATH": os.pathsep.join(sys.path)}
         ran = subprocess.run([sys.executable, *arguments], env=environment, capture_output=True, text=True, check=False)
         return ran.stdout, ran.stderr.splitlines()[-1] if ran.stderr else ""
 
-    def test_refused(self):
-        """Another major version, none at all, and one that lacks a call: neither is it loaded, nor is a wheel made with it."""
-        for source, told in [
-            ("unsigned placer_version(void) { return 2001000; }", "version 2.1.0, this package needs 1.0 or a later 1.x"),
-            ("unsigned placer_version(void) { return 9000; }", "version 0.9.0, this package needs 1.0 or a later 1.x"),
-            ("int placer_other;", "a version before 1.0.0, this package needs 1.0 or a later 1.x ("),
-            ("unsigned placer_version(void) { return 1000000; }", "version 1.0.0, this package needs 1.0 or a later 1.x ("),
-        ]:
-            self.make(source)
-            for start, arguments in [("ImportError", ["-c", SCRIPT]), ("the wheel was not written", [BACKEND, self.folder / "out"])]:
-                out, error = self.run_with(*arguments)
-                self.assertEqual(out, "")
-                self.assertTrue(error.startswith(f"{start}: the library {self.path} is of {told}"), error)
+    def test_incomplete(self):
+        """A library without a version, and one that lacks a call."""
+        self.make("int placer_other;")
+        self.check_refused("a version before 1.0.0, this package needs 1.0 or a later 1.x (")
+        self.make("unsigned placer_version(void) { return 1000000; }")
+        error = self.check_refused("version 1.0.0, this package needs 1.0 or a later 1.x (")
         self.assertIn("undefined symbol: placer_read_book", error)
 
     @unittest.skipUnless(ARCHIVE.exists(), "the static library is not built")
-    def test_accepted(self):
-        """The real library under a later minor version, and under another patch."""
+    def test_whole(self):
+        """The real library under another major version, under a later minor version, and under another patch."""
+        for number, told in [(2_001_000, "2.1.0"), (9_000, "0.9.0")]:
+            self.make_whole(number)
+            self.assertTrue(self.check_refused(f"version {told}, this package needs 1.0 or a later 1.x").endswith(" 1.x"))
         for number, told in [(1_001_000, "1.1.0"), (1_000_007, "1.0.7")]:
-            linked = "-Wl,--allow-multiple-definition", "-Wl,--whole-archive", ARCHIVE, "-Wl,--no-whole-archive"
-            self.make(f"unsigned placer_version(void) {{ return {number}; }}", *linked)
+            self.make_whole(number)
             self.assertEqual(self.run_with("-c", SCRIPT), (f"{told} 24\n", ""))
 
 

@@ -29,7 +29,7 @@ fn main() -> Result<(), Box<dyn std::error::Error>> {
     println!("{word} {} {}", placed.units, placed.cost);
 
     let size = read_book(&book)?;
-    for (k, units) in flow[..size.lots * size.calls].iter().enumerate().filter(|(_, &units)| units > 0) {
+    for (k, units) in flow[..size.lots * size.calls].iter().enumerate().filter(|&(_, &units)| units > 0) {
         println!("{} {} {units}", k / size.calls, k % size.calls);
     }
     Ok(())

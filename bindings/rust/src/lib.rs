@@ -33,7 +33,7 @@
 //!
 //! Every function that reads takes any bytes: it accepts, or refuses by the first [`Refusal`] in the published sequence, which also says
 //! which [`File`] it is about. A buffer is written only where the call accepts. Nothing panics, and calls may run in any number of threads.
-//! Nothing is kept, and nothing allocated but the six functions' lists and files. A call takes at most 24 KiB of stack,
+//! Nothing is kept, and nothing allocated but these lists and files. A call takes at most 24 KiB of stack,
 //! [`find_and_run_panel`] at most 8 KiB. For x86-64 Linux.
 //!
 //! # Linking

@@ -7,6 +7,8 @@ use crate::*;
 mod damaged;
 mod examples;
 mod idle;
+#[cfg(feature = "std")]
+mod limits;
 mod new_desks;
 mod panel;
 mod rebates;
