@@ -1,7 +1,7 @@
 /* Places example F1 of document 01: two lots of 5 and 4 units, two calls of 3 and 6, costs 1 2 / 3 5. It finds an order, as a broker
- * would once a quarter, and runs it, as each day. Build and run, from the repository's root after `make`:
+ * would once a quarter, and runs it, as each day. With the library installed:
  *
- *     cc -Iinclude examples/c/place.c build/libplacer.a -o build/place_c && build/place_c
+ *     cc place.c -lplacer -o place_c && ./place_c
  *
  *     order: 01 00 10 11
  *     FULL 9 24

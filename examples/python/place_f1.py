@@ -1,4 +1,4 @@
-"""Place F1 of document 01. Run with PYTHONPATH=bindings/python; it prints what place_f1.txt holds."""
+"""Place F1 of document 01. It prints what place_f1.txt holds."""
 
 import placer
 

@@ -147,7 +147,19 @@ def _placed(options: argparse.Namespace, problem: Problem) -> Tuple[Placing, str
     return told(options.files[0], find_and_run, problem.book, problem.amounts), found
 
 
+def _apart(options: argparse.Namespace) -> None:
+    """Raise BadInput if a file is to be written twice, or over one that is read; devices and pipes may be."""
+    given = vars(options)
+    seen = {os.path.realpath(path) for path in [*options.files, given.get("order")] if path}
+    for path in filter(None, map(given.get, ("flow", "html", "output"))):
+        if path != "-" and (os.path.isfile(path) or not os.path.exists(path)):
+            if os.path.realpath(path) in seen:
+                raise BadInput(path, None, "would be written over: it is read too, or written by another option")
+            seen.add(os.path.realpath(path))
+
+
 def _place(options: argparse.Namespace) -> int:
+    _apart(options)
     problem = load(options.files)
     placing, how = _placed(options, problem)
     if options.flow:
@@ -184,6 +196,7 @@ def _dimacs_lines(problem: Problem) -> Iterator[str]:
 
 
 def _dimacs(options: argparse.Namespace) -> int:
+    _apart(options)
     _write(options.output, "\n".join(_dimacs_lines(load(options.files))) + "\n")
     return DONE
 

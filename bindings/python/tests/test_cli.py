@@ -177,6 +177,23 @@ class Command(CommandCase):
             self.assertTrue(message.startswith(f"placer: {start}") and message.endswith(f"; {instead}\n"), message)
         self.assertEqual(self.run_it("place", "none.clb", "none.cla")[0], 0)
 
+    def test_not_written_over(self):
+        """No file is written twice, or over one that is read; nothing is written then. A device may be named twice."""
+        self.write({"order.clo": ORDER})
+        before = {path.name: path.read_bytes() for path in Path().iterdir()}
+        for options in [
+            ["--html", "out", "--flow", "out"],
+            ["--flow", "out", "-o", "./out"],
+            ["--html", "calls.csv"],
+            ["-o", "lots.csv"],
+            ["--order", "order.clo", "--flow", "order.clo"],
+        ]:
+            status, out, message = self.run_it("place", *options, *TABLES)
+            self.assertEqual((status, out, "would be written over" in message), (2, "", True))
+        self.assertEqual(self.run_it("dimacs", "-o", "lots.csv", *TABLES)[0], 2)
+        self.assertEqual({path.name: path.read_bytes() for path in Path().iterdir()}, before)
+        self.assertEqual(self.run_it("place", "--html", "/dev/null", "--flow", "/dev/null", *TABLES)[0], 0)
+
     def test_status_stands(self):
         """Messages that cannot be written change no status, a failure is never told as short, and the tables are UTF-8 in any locale."""
         self.write({"lots.csv": LOTS.replace(",5", ",6").replace("Bund", "Bünd"), "pairs.csv": PAIRS.replace("Bund", "Bünd")})
