@@ -11,11 +11,16 @@ UNPACKED := build/release/$(RELEASE)
 PAGES := FORMATS.md refusals.tsv SCOPE.md WHEN-TO-USE.md BENCHMARKS.md benchmarks.svg
 SOURCES := $(shell find crates -name '*.rt' -o -name '*.antt') crates.txt
 
+ifneq ($(words [$(DESTDIR)$(PREFIX)$(LIBDIR)]) $(filter-out /%,$(PREFIX) $(LIBDIR)),1 )
+$(error PREFIX and LIBDIR are absolute paths, and they and DESTDIR have no spaces)
+endif
+
 all: build/libplacer.a build/libplacer.so
 
 build/libplacer.a: $(SOURCES)
 	rt staticlib placer_c
 	mkdir -p build
+	rt version > build/PROVED-BY
 	cp target/staticlib/libplacer_c.a $@
 
 build/libplacer.so: build/libplacer.a
@@ -49,20 +54,20 @@ install: all build/place
 	install -m 644 bindings/python/placer/*.py bindings/python/placer/py.typed $(DESTDIR)$(PREFIX)/share/placer/python/placer
 	sed 's|@LIBRARY@|$(call way,$(PREFIX)/bin,$(LIBDIR))/libplacer.so.$(MAJOR)|' bindings/python/launcher.py > $(DESTDIR)$(PREFIX)/bin/placer
 	chmod 755 $(DESTDIR)$(PREFIX)/bin/placer
+	chmod 644 $(DESTDIR)$(LIBDIR)/pkgconfig/placer.pc $(DESTDIR)$(LIBDIR)/cmake/placer/*.cmake
 	for page in man/*.[13]; do install -D -m 644 $$page $(DESTDIR)$(PREFIX)/share/man/man$${page##*.}/$${page#man/}; done
 
 # A release is an installation that can be unpacked anywhere, with the Rust crate, examples and pages to read; the same sources make the
 # same bytes.
 dist: all build/place
 	rm -rf build/release dist/placer-*.tar.gz
-	$(MAKE) -s install DESTDIR=$(CURDIR)/build/release PREFIX=/$(RELEASE) LIBDIR=/$(RELEASE)/lib
+	$(MAKE) -s install DESTDIR=build/release PREFIX=/$(RELEASE) LIBDIR=/$(RELEASE)/lib
 	sed -i 's|/$(RELEASE)|$${pcfiledir}/../..|' $(UNPACKED)/lib/pkgconfig/placer.pc
-	mkdir -p $(UNPACKED)/share/doc/placer/examples $(UNPACKED)/share/placer/rust
-	cp -r $(addprefix bindings/rust/,Cargo.toml build.rs src examples tests) $(UNPACKED)/share/placer/rust
-	cp -r $(addprefix examples/,c csv python) $(UNPACKED)/share/doc/placer/examples
+	mkdir -p $(UNPACKED)/share/doc/placer $(UNPACKED)/share/placer/rust
+	cd bindings/rust && cp --parents Cargo.toml build.rs $$(find src examples tests -name '[a-z]*.rs') $(CURDIR)/$(UNPACKED)/share/placer/rust
+	cp --parents $(wildcard $(addprefix examples/,c/*.c c/*.txt csv/*.csv python/*.py python/*.txt)) $(UNPACKED)/share/doc/placer
 	cp CHANGELOG.md $(addprefix docs/,$(PAGES)) $(UNPACKED)/share/doc/placer
-	cp packaging/README.md LICENSE $(UNPACKED)
-	rt version > $(UNPACKED)/PROVED-BY
+	cp packaging/README.md LICENSE build/PROVED-BY $(UNPACKED)
 	cd $(UNPACKED) && find . -type f ! -name SHA256SUMS | LC_ALL=C sort | xargs sha256sum > SHA256SUMS
 	mkdir -p dist
 	tar -C build/release --sort=name --mtime=@0 --owner=0 --group=0 --numeric-owner --mode=a+rX,u+w,go-w -I 'gzip -n9' \

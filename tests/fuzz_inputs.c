@@ -181,7 +181,8 @@ static uint32_t about(uint32_t needed, uint32_t most)
 /* A lot or a call, in the book or not. */
 static uint64_t any_of_side(uint32_t side)
 {
-    uint64_t within = below(side + 1), numbers[] = {within, within, side, 31, 32, 255, 256, UINT64_C(1) << 32, any(), UINT64_MAX};
+    uint64_t within = below(side + 1), higher = within + (UINT64_C(1) << (8 + below(56)));
+    uint64_t numbers[] = {within, within, side, 31, 32, 255, 256, UINT64_C(1) << 32, higher, any(), UINT64_MAX};
     return PICK(numbers);
 }
 

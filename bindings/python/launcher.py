@@ -5,6 +5,8 @@ import os
 import sys
 from pathlib import Path
 
+if sys.version_info < (3, 9):
+    sys.exit("placer needs Python 3.9 or later")
 HERE = Path(__file__).resolve().parent
 sys.path.insert(0, str(HERE.parent / "share" / "placer" / "python"))
 if not os.environ.get("PLACER_LIBRARY"):

@@ -1,6 +1,6 @@
 //! Links libplacer: the archive where its folder has one, else the shared library. The folder is the one that the environment variable
-//! PLACER_LIB_DIR names. Without it, it is the first that has the library: the repository's `build`, the `lib` of the release that this
-//! crate stands in, the one that pkg-config tells.
+//! PLACER_LIB_DIR names, seen from this crate's folder if it is relative. Without it, it is the first that has the library: the
+//! repository's `build`, the `lib` of the release that this crate stands in, the one that pkg-config tells.
 use std::env;
 use std::ffi::OsString;
 use std::path::{Path, PathBuf};
@@ -12,14 +12,14 @@ const VARIABLES: [&str; 5] = ["PLACER_LIB_DIR", "PKG_CONFIG", "PKG_CONFIG_PATH",
 fn main() {
     let root = PathBuf::from(env::var_os("CARGO_MANIFEST_DIR").unwrap_or_default());
     let named = env::var_os("PLACER_LIB_DIR").filter(|name| !name.is_empty());
-    let file = found(&root, named, told_by_pkg_config).unwrap_or_else(|message| {
+    let (folder, file) = found(&root, named, told_by_pkg_config).and_then(|file| in_text(&file)).unwrap_or_else(|message| {
         eprintln!("{message}");
         exit(1)
     });
-    let kind = if file.extension().map_or(false, |name| name == "a") { "static" } else { "dylib" };
-    println!("cargo:rustc-link-search=native={}", file.parent().unwrap_or(&root).display());
+    let kind = if file.ends_with(".a") { "static" } else { "dylib" };
+    println!("cargo:rustc-link-search=native={folder}");
     println!("cargo:rustc-link-lib={kind}=placer");
-    println!("cargo:rerun-if-changed={}", file.display());
+    println!("cargo:rerun-if-changed={file}");
     VARIABLES.iter().for_each(|name| println!("cargo:rerun-if-env-changed={name}"));
 }
 
@@ -35,6 +35,14 @@ pub fn found(root: &Path, named: Option<OsString>, told: impl FnOnce() -> Option
     }
     let told = told();
     told.as_deref().and_then(library).ok_or_else(|| not_found(&near, told.as_deref()))
+}
+
+/// The folder and the path of the library's file, as cargo is told them: in a line of UTF-8.
+pub fn in_text(file: &Path) -> Result<(String, String), String> {
+    match (file.parent().and_then(Path::to_str), file.to_str()) {
+        (Some(folder), Some(file)) if !file.contains('\n') => Ok((folder.to_string(), file.to_string())),
+        _ => Err(format!("The placer's library is at {file:?}, and cargo takes no path that is not UTF-8 or has a line break.")),
+    }
 }
 
 /// The library's file in a folder.

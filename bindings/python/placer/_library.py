@@ -67,8 +67,9 @@ def load(path: str) -> ctypes.CDLL:
     """Return the library of a path, declared; raise ImportError if it cannot be loaded or does not fit this package."""
     try:
         loaded = ctypes.CDLL(path)
-    except OSError as error:
-        raise ImportError(f"the placer library cannot be loaded ({error}); build it with `make` in the repository, or name it in PLACER_LIBRARY") from error
+    except (OSError, UnicodeError) as error:
+        advice = "build it with `make` in the repository, or name it in PLACER_LIBRARY"
+        raise ImportError(f"the placer library cannot be loaded ({error}); {advice}") from error
     of = "a version before 1.0.0"
     try:
         _declare(loaded, "version", ctypes.c_uint32, [])

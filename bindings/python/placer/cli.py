@@ -73,7 +73,10 @@ def _out(text: str) -> None:
         raise BadInput("standard output", None, "is closed")
     if isinstance(sys.stdout, io.TextIOWrapper):
         sys.stdout.reconfigure(encoding="utf-8")
-    _send(sys.stdout, text)
+    try:
+        _send(sys.stdout, text)
+    except OSError as error:
+        raise BadInput("standard output", None, str(error.strerror)) from None
 
 
 def _marks() -> bool:
@@ -89,11 +92,20 @@ def _say(line: str) -> None:
             _send(sys.stderr, line + "\n")
 
 
+def _file(path: str, data: bytes) -> None:
+    """Write a file."""
+    try:
+        Path(path).write_bytes(data)
+    except OSError as error:
+        raise BadInput(path, None, str(error.strerror)) from None
+
+
 def _write(path: str, text: str) -> None:
+    """Write a text to a file, or to standard output for "-"."""
     if path == "-":
         _out(text)
     else:
-        Path(path).write_bytes(text.encode())
+        _file(path, text.encode())
 
 
 def _units(problem: Problem, placing: Placing) -> str:
@@ -107,17 +119,18 @@ def _units(problem: Problem, placing: Placing) -> str:
 
 
 def _with_idle(files: Sequence[str], problem: Problem) -> Placing:
-    """Place with an idle call. A refusal says what to do instead: of the last file, which has the calls, or of the first, for the order."""
+    """Place with an idle call. A refusal says what to do instead; of tables it is told of the calls', but 13 of the pairs'."""
     try:
         return find_and_run_idle(problem.book, problem.amounts)
     except Refused as refused:
-        path, instead = files[-1], f"place without --idle, or, for the least cost, {SOLVER}"
+        instead = f"place without --idle, or, for the least cost, {SOLVER}"
         if refused.cause is Cause.CALLS_EXCEED_LOTS:
             instead = "place without --idle"
         elif refused.cause is Cause.NO_ORDER:
             told(files[0], find_order, problem.book)  # which says so if the book alone has none either
-            path, instead = files[0], f"the book alone has one: {instead}"
-        raise BadInput(path, None, f"{refused}; {instead}") from None
+            instead = f"the book alone has one: {instead}"
+        of_first = refused.cause is Cause.NO_ORDER or len(files) == 2 and refused.file == "book"
+        raise BadInput(files[0] if of_first else files[-1], None, f"{refused}; {instead}") from None
 
 
 def _for_panel(files: Sequence[str], problem: Problem) -> Placing:
@@ -136,7 +149,7 @@ def _for_panel(files: Sequence[str], problem: Problem) -> Placing:
 def _placed(options: argparse.Namespace, problem: Problem) -> Tuple[Placing, str]:
     """Place as the options ask for, and return how in words too."""
     found = "by an order that was found for the book"
-    if options.order:
+    if options.order is not None:
         order = contents(options.order)
         told(options.order, check_order, problem.book, order)
         return run_order(problem.book, order, problem.amounts), f"by the order of {named(options.order)}"
@@ -150,9 +163,9 @@ def _placed(options: argparse.Namespace, problem: Problem) -> Tuple[Placing, str
 def _apart(options: argparse.Namespace) -> None:
     """Raise BadInput if a file is to be written twice, or over one that is read; devices and pipes may be."""
     given = vars(options)
-    seen = {os.path.realpath(path) for path in [*options.files, given.get("order")] if path}
-    for path in filter(None, map(given.get, ("flow", "html", "output"))):
-        if path != "-" and (os.path.isfile(path) or not os.path.exists(path)):
+    seen = {os.path.realpath(path) for path in [*options.files, given.get("order")] if path is not None}
+    for path in map(given.get, ("flow", "html", "output")):
+        if path not in (None, "-") and (os.path.isfile(path) or not os.path.exists(path)):
             if os.path.realpath(path) in seen:
                 raise BadInput(path, None, "would be written over: it is read too, or written by another option")
             seen.add(os.path.realpath(path))
@@ -162,9 +175,9 @@ def _place(options: argparse.Namespace) -> int:
     _apart(options)
     problem = load(options.files)
     placing, how = _placed(options, problem)
-    if options.flow:
-        Path(options.flow).write_bytes(words(units for row in placing.flow for units in row))
-    if options.html:
+    if options.flow is not None:
+        _file(options.flow, words(units for row in placing.flow for units in row))
+    if options.html is not None:
         _write(options.html, page(problem, placing, how))
     _write(options.output, _units(problem, placing))
     _say(f"{placing.verdict.name.lower()}: {placing.units} units, cost {placing.cost}")
@@ -177,7 +190,7 @@ def _encode(options: argparse.Namespace) -> int:
     if options.order:
         files["order.clo"] = told(options.files[0], find_order, problem.book)
     for name, data in files.items():
-        (Path(options.to) / name).write_bytes(data)
+        _file(os.path.join(options.to, name), data)
     return DONE
 
 
@@ -203,10 +216,10 @@ def _dimacs(options: argparse.Namespace) -> int:
 
 def _show(options: argparse.Namespace) -> int:
     data = contents(options.file)
-    if options.book:
+    if options.book is not None:
         book, amounts = contents(options.book), None
         told(options.book, read_book, book)
-        if options.amounts:
+        if options.amounts is not None:
             amounts = contents(options.amounts)
             told(options.amounts, read_amounts, book, amounts)
         _out(flow_text(options.file, data, book, amounts, _marks()))
@@ -214,7 +227,7 @@ def _show(options: argparse.Namespace) -> int:
     if data[:3] not in MARKED:
         raise BadInput(options.file, None, "neither a book, an order nor amounts; for a flow name its book by --book")
     what, shown = MARKED[data[:3]]
-    if options.amounts:
+    if options.amounts is not None:
         raise BadInput(options.file, None, f"marked as {what}, to be shown without --amounts, which goes with a flow and its --book")
     _out(told(options.file, shown, data))
     return DONE

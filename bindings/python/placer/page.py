@@ -5,6 +5,7 @@ The page is whole in itself: no script, and nothing is fetched. What is marked b
 
 from __future__ import annotations
 
+import re
 from html import escape
 from typing import Iterable, Iterator, List, Optional
 
@@ -51,9 +52,9 @@ small { display: block; font-size: .75em; font-weight: 400; }
   @page { size: landscape; margin: 1cm; }
   body { padding: 0; }
   .scroll { max-height: none; overflow: visible; border: 0; }
-  table { font-size: min(.8rem, 265mm / var(--columns) / 5); }
+  table { font-size: min(.8rem, 265mm / var(--columns) / 6); }
   th, td { padding: .1em .3em; }
-  tbody .name { max-width: 15em; }
+  .name, tbody .name { max-width: 7em; overflow-wrap: anywhere; }
   tr { break-inside: avoid; } }
 """
 _MET = {
@@ -72,9 +73,14 @@ _LEGEND = f"""Lots are rows, calls are columns. A pair has the units placed, and
 eligible. {_sign("✓", "checked")} where nothing is left in the lot, or the call lacks nothing."""
 
 
+def _shown(text: str) -> str:
+    """Return a text for the page, with a sign in place of what is no character of HTML."""
+    return escape(re.sub("[^\t\n\r -~\xa0-\ud7ff\ue000-\ufdcf\ufdf0-\ufffd\U00010000-\U0010fffd]", "\ufffd", text))
+
+
 def _heading(scope: str, name: str, sign: str) -> str:
     """Return the heading of a lot or call, with a sign if it is full."""
-    kind, text = ' class="full"' if sign else "", escape(name)
+    kind, text = ' class="full"' if sign else "", _shown(name)
     return f'<th scope="{scope}"{kind}><span class="name" title="{text}">{sign and sign + " "}<bdi>{text}</bdi></span></th>'
 
 
@@ -113,7 +119,6 @@ def _rows(problem: Problem, placing: Placing) -> Iterator[str]:
 def page(problem: Problem, placing: Placing, how: str) -> str:
     """Return the page of a placing; `how` says by which order it was placed."""
     title = f"{placing.verdict.name.capitalize()}: {placing.units:,} units, cost {placing.cost:,}"
-    how = escape(how.encode("utf-8", "replace").decode())  # a path may hold bytes that are no text
     return f"""<!DOCTYPE html>
 <html lang="en">
 <head>
@@ -126,7 +131,7 @@ def page(problem: Problem, placing: Placing, how: str) -> str:
 <body>
 <h1>{title}</h1>
 <p>{_MET[placing.verdict]} Costs are in hundredths of a cent.</p>
-<p>Placed {how}.</p>
+<p>Placed {_shown(how)}.</p>
 <p class="legend">{_LEGEND}</p>
 <div class="scroll" tabindex="0" role="region" aria-label="The table, which scrolls">
 <table style="--columns: {len(problem.calls) + 6}">

@@ -68,6 +68,8 @@ def _lines(path: str) -> Iterator[Tuple[int, List[str]]]:
         text = contents(path).decode("utf-8-sig")
     except UnicodeDecodeError:
         raise BadInput(path, None, "is not UTF-8 text") from None
+    if "\0" in text:
+        raise BadInput(path, text.count("\n", 0, text.index("\0")) + 1, "a null character")
     reader = csv.reader(io.StringIO(text, newline=""), strict=True)
     try:
         header = next(reader, [])

@@ -28,6 +28,7 @@ BAD = [
         for bad in ("nan", "1.5", "-1.5", "-", "--5", "- 5", "5-", "+5", "\u22125")
     ),
     ("pairs.csv", PAIRS + '"Bund', "pairs.csv:6: unexpected end of data"),
+    ("pairs.csv", PAIRS + "\0", "pairs.csv:6: a null character"),
     ("lots.csv", LOTS + "OAT 2029,1\n", "lots.csv:4: the lot 'OAT 2029' stands here a second time"),
     ("lots.csv", LOTS.replace(",5", ",-5"), "lots.csv:2: the amount '-5' is not a whole number"),
     ("lots.csv", LOTS.replace(",5", ",1000000001"), "lots.csv:2: the amount 1000000001 is above 1,000,000,000 (refusal 16)"),
@@ -164,11 +165,13 @@ class Command(CommandCase):
         for name, (costs, lots, calls) in files.items():
             self.write({f"{name}.clb": placer.book_bytes(costs), f"{name}.cla": placer.amounts_bytes(lots, calls)})
         self.write({"calls.csv": CALLS + "".join(f"{c},0\n" for c in range(30))})
+        self.write({"wide.clb": placer.book_bytes([[0] * 32]), "wide.cla": placer.amounts_bytes([0], [0] * 32)})
         solver = "use a flow solver on what `placer dimacs` writes"
         least = f"place without --idle, or, for the least cost, {solver}"
         for start, instead, names in [
             ("spare.cla: refused 18: the calls' total exceeds the lots' total", "place without --idle", ["spare.clb", "spare.cla"]),
             ("calls.csv: refused 19: the book already has 32 calls", least, TABLES),
+            ("wide.clb: refused 19: the book already has 32 calls", least, ["wide.clb", "wide.cla"]),
             ("none.clb: refused 13: no order of this book (with", f"the book alone has one: {least}", ["none.clb", "none.cla"]),
             ("neither.clb: refused 13: no order", solver, ["neither.clb", "neither.cla"]),
         ]:
@@ -176,23 +179,6 @@ class Command(CommandCase):
             self.assertEqual((status, out), (2, ""))
             self.assertTrue(message.startswith(f"placer: {start}") and message.endswith(f"; {instead}\n"), message)
         self.assertEqual(self.run_it("place", "none.clb", "none.cla")[0], 0)
-
-    def test_not_written_over(self):
-        """No file is written twice, or over one that is read; nothing is written then. A device may be named twice."""
-        self.write({"order.clo": ORDER})
-        before = {path.name: path.read_bytes() for path in Path().iterdir()}
-        for options in [
-            ["--html", "out", "--flow", "out"],
-            ["--flow", "out", "-o", "./out"],
-            ["--html", "calls.csv"],
-            ["-o", "lots.csv"],
-            ["--order", "order.clo", "--flow", "order.clo"],
-        ]:
-            status, out, message = self.run_it("place", *options, *TABLES)
-            self.assertEqual((status, out, "would be written over" in message), (2, "", True))
-        self.assertEqual(self.run_it("dimacs", "-o", "lots.csv", *TABLES)[0], 2)
-        self.assertEqual({path.name: path.read_bytes() for path in Path().iterdir()}, before)
-        self.assertEqual(self.run_it("place", "--html", "/dev/null", "--flow", "/dev/null", *TABLES)[0], 0)
 
     def test_status_stands(self):
         """Messages that cannot be written change no status, a failure is never told as short, and the tables are UTF-8 in any locale."""

@@ -13,7 +13,7 @@ from collections import Counter
 from pathlib import Path
 
 import placer
-from command import ROOT, TABLES, CommandCase
+from command import CALLS, LOTS, PAIRS, ROOT, TABLES, CommandCase
 from support import NO_ORDER, ORDER, SPARE
 
 BROWSER = next(filter(None, map(shutil.which, ("chromium", "chromium-browser", "google-chrome"))), None)
@@ -119,6 +119,9 @@ class Page(CommandCase):
         self.assertEqual(cells.rows[0][2:-1], [["lacks nothing", name] for name in BAD_NAMES])
         self.assertEqual((cells.count("script"), cells.count("bdi"), cells.count("th")), (0, 10, 15))
         self.assertEqual([of["title"] for _, of in cells.tags if "title" in of], BAD_NAMES * 2)
+        self.write({"lots.csv": LOTS.replace("OAT", "\x01O\x7fA\uffffT"), "pairs.csv": PAIRS.replace("OAT", "\x01O\x7fA\uffffT")})
+        self.write({"calls.csv": CALLS})
+        self.assertIn("<bdi>\ufffdO\ufffdA\ufffdT 2029</bdi>", self.page(*TABLES))
 
     def test_how(self):
         """The page says by which order was placed, and the path of an order file is text too."""
@@ -129,7 +132,7 @@ class Page(CommandCase):
             (["--idle"], "by an order that was found for the book with an idle call, which takes what stays in the lots"),
             (["--panel"], "by an order that was found for the book, within the limits of a ticket panel"),
             (["--order", "<b>.clo"], "by the order of &lt;b&gt;.clo"),
-            (["--order", not_text], "by the order of ?.clo"),
+            (["--order", not_text], "by the order of \ufffd.clo"),
         ]:
             self.assertIn(f"<p>Placed {told}.</p>\n", self.page(*how, *TABLES))
 

@@ -69,6 +69,15 @@ fn named_folder_without_the_library() {
 }
 
 #[test]
+fn paths_in_text() {
+    use std::{ffi::OsStr, os::unix::ffi::OsStrExt};
+    assert_eq!(build::in_text(Path::new("a b/libplacer.a")), Ok(("a b".to_string(), "a b/libplacer.a".to_string())));
+    for name in [&b"\xff/libplacer.a"[..], b"a\nb/libplacer.a"] {
+        assert!(build::in_text(Path::new(OsStr::from_bytes(name))).unwrap_err().contains("cargo takes no path"));
+    }
+}
+
+#[test]
 fn nowhere() {
     let root = standing("nowhere", &["share/placer/rust/told/libfoo.a"]);
     for (told, says) in [(None, "no folder".to_string()), (Some("told"), root.join("told").display().to_string())] {
