@@ -83,7 +83,9 @@ static placer_stretch wrong_lot_costs(const uint8_t *book, size_t book_len, size
 
 static placer_reply wrong_pair_cost(const uint8_t *book, size_t book_len, size_t lot, size_t call)
 {
-    return placer_pair_cost(book, book_len, lot, wrong("call_cut_to_32_bits") ? (uint32_t)call : call);
+    if (wrong("call_cut_to_32_bits")) call = (uint32_t)call;
+    if (wrong("call_cut_to_48_bits")) call &= (UINT64_C(1) << 48) - 1;
+    return placer_pair_cost(book, book_len, lot, call);
 }
 
 static placer_reply wrong_read_amounts(const uint8_t *book, size_t book_len, const uint8_t *amounts, size_t amounts_len)
