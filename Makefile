@@ -11,7 +11,7 @@ UNPACKED := build/release/$(RELEASE)
 PAGES := FORMATS.md refusals.tsv SCOPE.md WHEN-TO-USE.md BENCHMARKS.md benchmarks.svg
 SOURCES := $(shell find crates -name '*.rt' -o -name '*.antt') crates.txt
 
-ifneq ($(words [$(DESTDIR)$(PREFIX)$(LIBDIR)]) $(filter-out /%,$(PREFIX) $(LIBDIR)),1 )
+ifneq ($(words [$(DESTDIR)$(PREFIX)$(LIBDIR)]) $(words $(PREFIX) $(LIBDIR)) $(filter-out /%,$(PREFIX) $(LIBDIR)),1 2 )
 $(error PREFIX and LIBDIR are absolute paths, and they and DESTDIR have no spaces)
 endif
 
@@ -64,7 +64,8 @@ dist: all build/place
 	$(MAKE) -s install DESTDIR=build/release PREFIX=/$(RELEASE) LIBDIR=/$(RELEASE)/lib
 	sed -i 's|/$(RELEASE)|$${pcfiledir}/../..|' $(UNPACKED)/lib/pkgconfig/placer.pc
 	mkdir -p $(UNPACKED)/share/doc/placer $(UNPACKED)/share/placer/rust
-	cd bindings/rust && cp --parents Cargo.toml build.rs $$(find src examples tests -name '[a-z]*.rs') $(CURDIR)/$(UNPACKED)/share/placer/rust
+	cd bindings/rust && \
+	    cp --parents Cargo.toml build.rs $$(find src examples tests -name '[a-z]*.rs') "$(CURDIR)/$(UNPACKED)/share/placer/rust"
 	cp --parents $(wildcard $(addprefix examples/,c/*.c c/*.txt csv/*.csv python/*.py python/*.txt)) $(UNPACKED)/share/doc/placer
 	cp CHANGELOG.md $(addprefix docs/,$(PAGES)) $(UNPACKED)/share/doc/placer
 	cp packaging/README.md LICENSE build/PROVED-BY $(UNPACKED)

@@ -61,7 +61,8 @@ static void book_of(size_t n, size_t m, int rebates)
     clear(made, len + 8), clear(costs_back, in_bytes + 8);
     for (size_t cut = 1; cut <= len; cut += n < 4 ? 1 : 97) EXPECT(placer_encode_book(costs, n, m, made, len - cut) == 0);
     EXPECT(kept(made, 0, len + 8));
-    EXPECT(placer_encode_book(costs, n, m, made, len) == len && kept(made, len, len + 8));
+    EXPECT(placer_encode_book(costs, n, m, made, len) == len && placer_encode_book(costs, n, m, made, len + 8) == len);
+    EXPECT(kept(made, len, len + 8));
     EXPECT(made[3] == (rebates && n * m > 0 ? 2 : 1));
     EXPECT(replies(placer_read_book(made, len), PLACER_ACCEPTED, n, m, 0));
     for (size_t k = 0; k < n * m; k++) {
@@ -83,7 +84,8 @@ static void order_of(size_t count)
     clear(made, len + 8), clear(pairs_back, in_bytes + 2);
     for (size_t cut = 1; cut <= len; cut += 1 + count / 9) EXPECT(placer_encode_order(pairs, count, made, len - cut) == 0);
     EXPECT(kept(made, 0, len + 8));
-    EXPECT(placer_encode_order(pairs, count, made, len) == len && kept(made, len, len + 8));
+    EXPECT(placer_encode_order(pairs, count, made, len) == len && placer_encode_order(pairs, count, made, len + 8) == len);
+    EXPECT(kept(made, len, len + 8));
     if (count > 0) EXPECT(replies(placer_decode_order(made, len, pairs_back, count - 1), PLACER_BUFFER_TOO_SHORT, 0, 0, 0));
     EXPECT(kept(pairs_back, 0, in_bytes + 2));
     EXPECT(replies(placer_decode_order(made, len, pairs_back, count), PLACER_ACCEPTED, count, 0, 0));
@@ -110,7 +112,8 @@ static void amounts_of(size_t n, size_t m, int reserved)
     clear(made, len + 8), clear(lots_back, sizeof lots), clear(calls_back, sizeof calls), clear(reserves_back, sizeof reserves);
     for (size_t cut = 1; cut <= len; cut++) EXPECT(placer_encode_amounts(lots, n, calls, m, given, made, len - cut) == 0);
     EXPECT(kept(made, 0, len + 8));
-    EXPECT(placer_encode_amounts(lots, n, calls, m, given, made, len) == len && kept(made, len, len + 8));
+    EXPECT(placer_encode_amounts(lots, n, calls, m, given, made, len) == len);
+    EXPECT(placer_encode_amounts(lots, n, calls, m, given, made, len + 8) == len && kept(made, len, len + 8));
     for (size_t k = 0; k < n * m; k++) costs[k] = PLACER_NOT_ELIGIBLE;
     size_t book_len = placer_encode_book(costs, n, m, other, ROOM);
     EXPECT(n > 32 || m > 32 || replies(placer_read_amounts(other, book_len, made, len), PLACER_ACCEPTED, n, m, 0));

@@ -3,13 +3,11 @@
 from __future__ import annotations
 
 import argparse
-import contextlib
 import csv
 import io
 import os
 import sys
-from pathlib import Path
-from typing import Iterator, List, Optional, Sequence, TextIO, Tuple
+from typing import Iterator, List, Optional, Sequence, Tuple
 
 from .entry_points import (
     check_order,
@@ -29,6 +27,7 @@ from .refused import Cause, Refused
 from .showing import MARKED, flow_text
 from .tables import SOLVER, BadInput, Problem, contents, load, named, told
 from .version import __version__
+from .writing import apart, say, write_file, write_out, write_text
 
 DONE, SHORT, REFUSED = 0, 1, 2  # exit status
 
@@ -57,65 +56,20 @@ the program `place`, which reads the files of `placer encode` and prints the pla
 without --idle."""
 
 
-def _send(stream: TextIO, text: str) -> None:
-    """Write and flush. What cannot be written is dropped, so that leaving the program does not fail by it again."""
-    try:
-        stream.write(text)
-        stream.flush()
-    except OSError:
-        os.dup2(os.open(os.devnull, os.O_WRONLY), stream.fileno())
-        raise
-
-
-def _out(text: str) -> None:
-    """Write to standard output, as UTF-8 in any locale."""
-    if sys.stdout is None:
-        raise BadInput("standard output", None, "is closed")
-    if isinstance(sys.stdout, io.TextIOWrapper):
-        sys.stdout.reconfigure(encoding="utf-8")
-    try:
-        _send(sys.stdout, text)
-    except OSError as error:
-        raise BadInput("standard output", None, str(error.strerror)) from None
-
-
 def _marks() -> bool:
     """Return whether standard output is a terminal that shows marks, and they are wanted."""
     terminal = sys.stdout is not None and sys.stdout.isatty() and os.environ.get("TERM", "dumb") != "dumb"
     return terminal and not os.environ.get("NO_COLOR")
 
 
-def _say(line: str) -> None:
-    """Write a line to standard error, if that can be written: the exit status says the same."""
-    if sys.stderr is not None:
-        with contextlib.suppress(OSError):
-            _send(sys.stderr, line + "\n")
-
-
-def _file(path: str, data: bytes) -> None:
-    """Write a file."""
-    try:
-        Path(path).write_bytes(data)
-    except OSError as error:
-        raise BadInput(path, None, str(error.strerror)) from None
-
-
-def _write(path: str, text: str) -> None:
-    """Write a text to a file, or to standard output for "-"."""
-    if path == "-":
-        _out(text)
-    else:
-        _file(path, text.encode())
-
-
 def _units(problem: Problem, placing: Placing) -> str:
     """Return the placed units as CSV: lot,call,units, for each pair that has any."""
-    out = io.StringIO(newline="")
-    writer = csv.writer(out, lineterminator="\n")
+    text = io.StringIO(newline="")
+    writer = csv.writer(text, lineterminator="\n")
     writer.writerow(["lot", "call", "units"])
     for lot, row in zip(problem.lots, placing.flow):
         writer.writerows((lot, call, units) for call, units in zip(problem.calls, row) if units)
-    return out.getvalue()
+    return text.getvalue()
 
 
 def _with_idle(files: Sequence[str], problem: Problem) -> Placing:
@@ -160,27 +114,16 @@ def _placed(options: argparse.Namespace, problem: Problem) -> Tuple[Placing, str
     return told(options.files[0], find_and_run, problem.book, problem.amounts), found
 
 
-def _apart(options: argparse.Namespace) -> None:
-    """Raise BadInput if a file is to be written twice, or over one that is read; devices and pipes may be."""
-    given = vars(options)
-    seen = {os.path.realpath(path) for path in [*options.files, given.get("order")] if path is not None}
-    for path in map(given.get, ("flow", "html", "output")):
-        if path not in (None, "-") and (os.path.isfile(path) or not os.path.exists(path)):
-            if os.path.realpath(path) in seen:
-                raise BadInput(path, None, "would be written over: it is read too, or written by another option")
-            seen.add(os.path.realpath(path))
-
-
 def _place(options: argparse.Namespace) -> int:
-    _apart(options)
+    apart([*options.files, options.order], [options.flow, options.html, options.output])
     problem = load(options.files)
     placing, how = _placed(options, problem)
     if options.flow is not None:
-        _file(options.flow, words(units for row in placing.flow for units in row))
+        write_file(options.flow, words(units for row in placing.flow for units in row))
     if options.html is not None:
-        _write(options.html, page(problem, placing, how))
-    _write(options.output, _units(problem, placing))
-    _say(f"{placing.verdict.name.lower()}: {placing.units} units, cost {placing.cost}")
+        write_text(options.html, page(problem, placing, how))
+    write_text(options.output, _units(problem, placing))
+    say(f"{placing.verdict.name.lower()}: {placing.units} units, cost {placing.cost}")
     return DONE if placing.met else SHORT
 
 
@@ -190,7 +133,7 @@ def _encode(options: argparse.Namespace) -> int:
     if options.order:
         files["order.clo"] = told(options.files[0], find_order, problem.book)
     for name, data in files.items():
-        _file(os.path.join(options.to, name), data)
+        write_file(os.path.join(options.to, name), data)
     return DONE
 
 
@@ -209,8 +152,8 @@ def _dimacs_lines(problem: Problem) -> Iterator[str]:
 
 
 def _dimacs(options: argparse.Namespace) -> int:
-    _apart(options)
-    _write(options.output, "\n".join(_dimacs_lines(load(options.files))) + "\n")
+    apart(options.files, [options.output])
+    write_text(options.output, "\n".join(_dimacs_lines(load(options.files))) + "\n")
     return DONE
 
 
@@ -222,14 +165,14 @@ def _show(options: argparse.Namespace) -> int:
         if options.amounts is not None:
             amounts = contents(options.amounts)
             told(options.amounts, read_amounts, book, amounts)
-        _out(flow_text(options.file, data, book, amounts, _marks()))
+        write_out(flow_text(options.file, data, book, amounts, _marks()))
         return DONE
     if data[:3] not in MARKED:
         raise BadInput(options.file, None, "neither a book, an order nor amounts; for a flow name its book by --book")
     what, shown = MARKED[data[:3]]
     if options.amounts is not None:
         raise BadInput(options.file, None, f"marked as {what}, to be shown without --amounts, which goes with a flow and its --book")
-    _out(told(options.file, shown, data))
+    write_out(told(options.file, shown, data))
     return DONE
 
 
@@ -244,7 +187,7 @@ def _check(options: argparse.Namespace) -> int:
             lines.append(f"{path}: amounts of this book\n")
         else:
             lines.append(f"{path}: an order of {told(path, check_order, book, data)} pairs that is good for all amounts\n")
-    _out("".join(lines))
+    write_out("".join(lines))
     return DONE
 
 
@@ -295,5 +238,5 @@ def main(arguments: Optional[List[str]] = None) -> int:
     try:
         return int(options.run(options))
     except Exception as error:  # of whatever kind: status 1 is for a call that lacks units
-        _say(f"placer: {error}")
+        say(f"placer: {error}")
         return REFUSED

@@ -112,7 +112,7 @@ def flow_text(path: str, data: bytes, book: bytes, amounts: Optional[bytes] = No
     costs, calls = book_costs(book), read_book(book).calls
     units = _flow(path, data, costs, calls)
     rows = _matrix([[None if cost is None else of for cost, of in zip(*row)] for row in zip(costs, units)], calls)
-    title = f"flow: {sum(map(sum, units))} units"
+    title = f"flow: {sum(sum(row) for row in units)} units"
     if amounts is None:
         return f"{title}\n" + _text(rows)
     left, lacks = _remains(path, units, amounts_lists(amounts))

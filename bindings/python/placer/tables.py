@@ -72,7 +72,7 @@ def _lines(path: str) -> Iterator[Tuple[int, List[str]]]:
         raise BadInput(path, text.count("\n", 0, text.index("\0")) + 1, "a null character")
     reader = csv.reader(io.StringIO(text, newline=""), strict=True)
     try:
-        header = next(reader, [])
+        header: List[str] = next(reader, [])
         yield 1, header
         for fields in reader:
             if fields and len(fields) != len(header):

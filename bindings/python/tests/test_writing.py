@@ -14,11 +14,15 @@ class Writing(CommandCase):
     def test_not_written_over(self):
         """No file is written twice, or over one that is read; nothing is written then. A device may be named twice."""
         self.write({"order.clo": ORDER})
+        os.link("calls.csv", "linked")
+        os.symlink("lots.csv", "pointing")
         before = {path.name: path.read_bytes() for path in Path().iterdir()}
         for options in [
             ["--html", "out", "--flow", "out"],
             ["--flow", "out", "-o", "./out"],
             ["--html", "calls.csv"],
+            ["--html", "linked"],
+            ["--flow", "pointing"],
             ["-o", "lots.csv"],
             ["--order", "order.clo", "--flow", "order.clo"],
         ]:
