@@ -90,7 +90,7 @@ pub fn read_of(lots: usize, calls: usize, amounts: &[u8]) -> Counts
     if size < amounts.len() {
         return Counts::Refused(Refusal::BytesAfter);
     }
-    if !book::inner::all_within(amounts, 7, lots + calls, 0, AMOUNT_LIMIT) {
+    if !rows::all_within(amounts, 7, lots + calls, 0, AMOUNT_LIMIT) {
         return Counts::Refused(Refusal::AmountTooHigh);
     }
     if reserved && !within_lots(amounts, lots) {

@@ -15,8 +15,8 @@ use Rattle.transport.specs.Finder.{size}
 use Rattle.transport.proofs.Laws.Sums.{sum-cong}
 use Rattle.specification.specs.Book.{bit, rowWord, bookLots, bookCalls, rowAt, rowStart, problemOf}
 use Rattle.specification.proofs.Starts.{book-ends}
-use Rattle.book.specs.Pairs.{onesBelow}
-use Rattle.book.proofs.Bits.{ones-below-none, ones-below-set, ones-below-unset}
+use Rattle.rows.specs.Words.{onesBelow}
+use Rattle.rows.proofs.Bits.{ones-below-none, ones-below-set, ones-below-unset}
 use Rattle.book.proofs.Readable.{Read}
 
 -- the set bits below bit c, one by one

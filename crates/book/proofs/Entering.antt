@@ -13,9 +13,9 @@ use lib.ListN.{length, getD, set, length-set}
 use lib.Seq.{getD-set-same, getD-set-other}
 use Rattle.files.proofs.Parts.{le-or-lt}
 use Rattle.specification.specs.Book.{bit}
-use Rattle.book.specs.Pairs.{onesBelow}
-use Rattle.book.specs.Table.{withRow, WithRow, SetFrom}
-use Rattle.book.proofs.Bits.{ones-below-none, ones-below-set, ones-below-unset}
+use Rattle.rows.specs.Words.{onesBelow, SetFrom}
+use Rattle.book.specs.Table.{withRow, WithRow}
+use Rattle.rows.proofs.Bits.{ones-below-none, ones-below-set, ones-below-unset}
 
 ltb-next : (r j : ℕ) → (r ≡ j → ⊥) → ltb r (j + 1) ≡ ltb r j
 ltb-next r j h =

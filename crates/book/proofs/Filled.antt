@@ -15,9 +15,10 @@ use lib.Seq.{ext-getD}
 use Rattle.specification.specs.Book.{bit, rowWord, bookLots, bookCalls, rowAt, rowStart, problemOf}
 use Rattle.specification.proofs.Flows.{length-tabulate, tabulate-at}
 use Rattle.files.proofs.Parts.{le-or-lt}
-use Rattle.book.specs.Pairs.{readable, onesBelow, costOffset, offsetTable}
+use Rattle.rows.specs.Words.{onesBelow}
+use Rattle.book.specs.Pairs.{readable, costOffset, offsetTable}
 use Rattle.book.specs.Table.{withRow, WithRow}
-use Rattle.book.proofs.Bits.{bit-below}
+use Rattle.rows.proofs.Bits.{bit-below}
 use Rattle.book.proofs.Readable.{readable-is}
 
 -- two lists of 1,024 entries that agree at each

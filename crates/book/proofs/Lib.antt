@@ -1,6 +1,4 @@
 -- Laws that the proofs of this crate and of the crates above cite.
-pub mod Signs  -- the size and the bits of a number by its sign
-pub mod Bits  -- a word of 32 bits: shifts, and the count of set bits below a bit
 pub mod Rows  -- one step of the reading, and where a row starts
 pub mod Readable  -- what a caller learns from the answer of `read_book`
 pub mod Entering  -- the table of offsets as one lot's calls are entered

@@ -23,9 +23,10 @@ use Rattle.specification.proofs.Numbers.{u32-drop}
 use Rattle.specification.proofs.Flows.{tabulate-at}
 use Rattle.specification.proofs.Books.{admitted-inside, cost-allowed}
 use Rattle.specification.proofs.Starts.{row-is, row-inside, cost-inside}
-use Rattle.book.specs.Pairs.{hasCost, onesBelow, costOffset, offsetTable}
+use Rattle.rows.specs.Words.{onesBelow}
+use Rattle.book.specs.Pairs.{hasCost, costOffset, offsetTable}
 use Rattle.book.specs.Table.{entry, raisedAt, admitsBy, problemBy, Tabled, Packed, Worded}
-use Rattle.book.proofs.Bits.{ones-below-none, ones-below-full, bit-of-full}
+use Rattle.rows.proofs.Bits.{ones-below-none, ones-below-full, bit-of-full}
 use Rattle.book.proofs.Readable.{Read}
 use Rattle.book.proofs.Offsets.{entry-is, entry-admits, entry-cost}
 use Rattle.book.proofs.Filled.{offset-row}

@@ -1,8 +1,7 @@
 -- What each case of the answer of `pair_cost` states, and the byte at which a readable book holds the cost of a pair.
 use mathlib.Core.List.{List}
 use mathlib.Core.Bool.{Bool, true, false, cond, _&&_}
-use Prim.Native.Nat.{ℕ, _/_, _%_, _^_}
-use lib.Count.{ones}
+use Prim.Native.Nat.{ℕ, _/_, _%_}
 use Rattle.specification.specs.Reply.{Reply, gives, refuses, refused}
 use Rattle.specification.specs.Book.{readBook, costStart, problemOf, PairCost, costs, notEligible, outside}
 use Rattle.specification.specs.Run.{tabulate}
@@ -28,10 +27,6 @@ readable book = notRefused (readBook book)
 -- the book is readable and the pair eligible
 abbrev pub hasCost : List ℕ → ℕ → ℕ → Bool
 hasCost book i j = readable book && problemOf book .admits i j
-
--- how many bits below bit j are set
-abbrev pub onesBelow : ℕ → ℕ → ℕ
-onesBelow word j = ones (word % 2 ^ j)
 
 -- the byte at which the book holds the cost of a pair, 0 where it has none
 abbrev pub costOffset : List ℕ → ℕ → ℕ → ℕ

@@ -1,7 +1,7 @@
 -- The transportation problem that a book and a table of offsets state. Entry 32 * lot + call of the table is the byte at which the book
 -- holds the pair's cost, and 0 where the pair is not eligible.
 use mathlib.Core.Path.{_≡_}
-use mathlib.Core.Bool.{Bool, true, false, cond, not, _&&_}
+use mathlib.Core.Bool.{Bool, cond, not, _&&_}
 use mathlib.Core.List.{List}
 use Prim.Native.Nat.{ℕ, _+_, _*_, _-_, _/_, _%_, _≤_, _<_}
 use lib.Dec.{ltb, eqb}
@@ -10,7 +10,7 @@ use Rattle.transport.specs.Problem.{Problem}
 use Rattle.specification.specs.Bytes.{u32At}
 use Rattle.specification.specs.Costs.{costLimit, costTop, liftedCost}
 use Rattle.specification.specs.Book.{bit}
-use Rattle.book.specs.Pairs.{onesBelow}
+use Rattle.rows.specs.Words.{onesBelow}
 
 -- what an array of 32 by 32 entries holds for two numbers below 32
 abbrev pub entry : List ℕ → ℕ → ℕ → ℕ
@@ -64,10 +64,3 @@ withRow table word i at k = cond (eqb (k / 32) i && bit word (k % 32)) (at + 4 *
 pub record WithRow (table : List ℕ) (word i at : ℕ) (entered : List ℕ) : Type 0 where
   pub long : length entered ≡ 1024
   pub entries : (k : ℕ) → k < 1024 → getD entered k 0 ≡ withRow table word i at k
-
--- r is the lowest set bit from bit j on, or 32 where there is none
-pub record SetFrom (word j r : ℕ) : Type 0 where
-  pub clear : (k : ℕ) → j ≤ k → k < r → bit word k ≡ false
-  pub is-set : r < 32 → bit word r ≡ true
-  pub within : r ≤ 32
-  pub not-below : j ≤ 32 → j ≤ r

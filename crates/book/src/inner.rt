@@ -7,14 +7,13 @@ ghost use mathlib.Core.Path.{_≡_};
 ghost use mathlib.Core.Bool.{true};
 ghost use Prim.Native.Nat.{ℕ, _+_, _*_, _-_, _^_, _<_, _≤_};
 ghost use lib.Count.{ones};
-ghost use lib.Dec.{leb};
 ghost use lib.ListN.{length, drop, getD};
-ghost use Rattle.transport.specs.Finder.{every, size};
+ghost use Rattle.transport.specs.Finder.{size};
 ghost use Rattle.specification.specs.Bytes.{u32At};
 ghost use Rattle.specification.specs.Costs.{costBase, liftedCost};
 ghost use Rattle.specification.specs.Book.{rowCost, bookVersion, bookLots, rowStart, problemOf};
 ghost use Rattle.book.specs.Pairs.{readable, offsetTable};
-ghost use Rattle.book.specs.Table.{entry, raisedAt, admitsBy, CanRead, WithRow, SetFrom};
+ghost use Rattle.book.specs.Table.{entry, raisedAt, admitsBy, CanRead, WithRow};
 
 // The byte at which each of the first `lots` rows starts in a readable book.
 pub fn row_starts(book: &[u8], lots: usize) -> [usize; 32]
@@ -25,7 +24,7 @@ pub fn row_starts(book: &[u8], lots: usize) -> [usize; 32]
     let mut at = 7;
     for i in 0..lots {
         starts[i] = at;
-        at += super::row::size(&book[at..]);
+        at += rows::size(&book[at..]);
     }
     starts
 }
@@ -38,7 +37,7 @@ pub fn row_at(book: &[u8], lot: Lot) -> usize
     let i = lot.0;
     let mut at = 7;
     for k in 0..i {
-        at += super::row::size(&book[at..]);
+        at += rows::size(&book[at..]);
     }
     at
 }
@@ -56,7 +55,7 @@ pub fn cost_from(book: &[u8], start: usize, call: Call, base: u32) -> u32
     requires { ⌜ start ≤ length (now book) ⌝ }
     ensures { λ r. ⌜ r ≡ liftedCost base (rowCost (drop start (now (book .entry))) (call .0)) ⌝ }
 {
-    super::signed::lifted(super::row::cost_in(&book[start..], call), base)
+    signed::lifted(rows::cost_in(&book[start..], call), base)
 }
 
 // The word of a lot that has all m calls.
@@ -67,20 +66,6 @@ pub fn all_calls(m: usize) -> u32
     ((1u64 << m) - 1) as u32
 }
 
-// The lowest set bit of a word from bit j on, or 32.
-pub fn set_from(word: u32, j: usize) -> usize
-    ensures { λ r. ⌜ SetFrom word j r ⌝ }
-{
-    if 32 <= j {
-        return 32;
-    }
-    let high = word >> j;
-    if high == 0 {
-        return 32;
-    }
-    u32::trailing_zeros(high) as usize + j
-}
-
 // Enters the offsets of one lot's costs, of which the first stands at `at`: set bit by set bit.
 fn enter_set(table: &mut [u16; 1024], word: u32, lot: Lot, at: usize)
     requires { ⌜ (length (now table) ≡ 1024) × (lot .0 < 32) × (at < 65000) ⌝ }
@@ -89,11 +74,11 @@ fn enter_set(table: &mut [u16; 1024], word: u32, lot: Lot, at: usize)
     let i = lot.0;
     let base = 32 * i;
     let mut next = at as u16;
-    let mut j = set_from(word, 0);
+    let mut j = rows::word::set_from(word, 0);
     while j < 32 {
         table[base + j] = next;
         next += 4;
-        j = set_from(word, j + 1);
+        j = rows::word::set_from(word, j + 1);
     }
 }
 
@@ -104,7 +89,7 @@ fn enter_first(table: &mut [u16; 1024], word: u32, lot: Lot, at: usize)
 {
     let i = lot.0;
     let base = 32 * i;
-    let costs = super::word::count(word);
+    let costs = rows::word::count(word);
     let mut next = at as u16;
     for j in 0..costs {
         table[base + j] = next;
@@ -117,7 +102,7 @@ fn enter_row(table: &mut [u16; 1024], word: u32, lot: Lot, at: usize)
     requires { ⌜ (length (now table) ≡ 1024) × (lot .0 < 32) × (at < 65000) ⌝ }
     ensures { λ _. ⌜ WithRow (now (table .entry)) word (lot .0) at (now (table .exit)) ⌝ }
 {
-    if super::word::reaches(word, super::word::count(word)) {
+    if rows::word::reaches(word, rows::word::count(word)) {
         enter_set(table, word, lot, at);
     } else {
         enter_first(table, word, lot, at);
@@ -134,7 +119,7 @@ pub fn offsets(book: &[u8], lots: usize) -> [u16; 1024]
     for i in 0..lots {
         let row = &book[at..];
         enter_row(&mut table, files::u32_at(row, 0), Lot(i), at + 4);
-        at += super::row::size(row);
+        at += rows::size(row);
     }
     table
 }
@@ -175,22 +160,7 @@ pub fn version_of(book: &[u8]) -> u16
 pub fn base_of(book: &[u8]) -> u32
     ensures { λ r. ⌜ r ≡ costBase (bookVersion (now (book .entry))) ⌝ }
 {
-    super::signed::cost_base(version_of(book))
-}
-
-// Whether none of the `count` 32-bit numbers from byte `start` on, with the base added, is above the limit. It does not stop at the first
-// that is: the pass is straight code.
-pub fn all_within(s: &[u8], start: usize, count: usize, base: u32, limit: u32) -> bool
-    requires { ⌜ start + 4 * count ≤ length (now s) ⌝ }
-    ensures { λ r. ⌜ r ≡ every count (λ k. leb (liftedCost base (u32At (now (s .entry)) (start + 4 * k))) limit) ⌝ }
-{
-    let mut within = true;
-    for k in 0..count {
-        if limit < super::signed::lifted(cost_at(s, start + 4 * k), base) {
-            within = false;
-        }
-    }
-    within
+    signed::cost_base(version_of(book))
 }
 
 // The cost of a pair with the limit added, in either version; of a pair that is not eligible it means nothing.
@@ -198,7 +168,7 @@ pub fn cost_of(book: &[u8], table: &[u16; 1024], lot: Lot, call: Call) -> u32
     requires { ⌜ CanRead (now book) (now table) (lot .0) (call .0) ⌝ }
     ensures { λ r. ⌜ r ≡ raisedAt (now (book .entry)) (entry (now (table .entry)) (lot .0) (call .0)) ⌝ }
 {
-    super::signed::lifted(cost_at(book, entry_of(table, lot, call)), COST_LIMIT)
+    signed::lifted(cost_at(book, entry_of(table, lot, call)), COST_LIMIT)
 }
 
 // Whether a pair is of the n lots and m calls and eligible.

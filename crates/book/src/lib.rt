@@ -1,8 +1,5 @@
 // The book file: reading it, the costs of one lot, and the cost of a pair.
 pub mod inner;
-mod row;
-pub mod signed;
-mod word;
 
 use files::Step;
 use specification::Call;
@@ -33,11 +30,11 @@ fn read_rows(rows: &[u8], version: u16, lots: usize, calls: usize) -> Step
     let mut at = 0;
     for lot in 0..lots {
         let row = &rows[at..];
-        let step = row::read_row(row, version, Lot(lot), calls, all);
+        let step = rows::read_row(row, version, Lot(lot), calls, all);
         if let Step::Refused(r) = step {
             return Step::Refused(r);
         }
-        at += row::size(row);
+        at += rows::size(row);
     }
     if at < rows.len() {
         return Step::Refused(Refusal::BytesAfter);
@@ -100,7 +97,7 @@ pub fn lot_costs(book: &[u8], lot: Lot) -> &[u8]
     }
     let at = inner::row_at(book, lot);
     let start = at + 4;
-    let end = at + row::size(&book[at..]);
+    let end = at + rows::size(&book[at..]);
     &book[start..end]
 }
 
@@ -122,8 +119,8 @@ pub fn pair_cost(book: &[u8], lot: Lot, call: Call) -> Cost
     }
     let at = inner::row_at(book, lot);
     let row = &book[at..];
-    if word::is_set(files::u32_at(row, 0), j) {
-        Cost::Of(signed::held_cost(row::cost_in(row, call), inner::version_of(book)))
+    if rows::word::is_set(files::u32_at(row, 0), j) {
+        Cost::Of(signed::held_cost(rows::cost_in(row, call), inner::version_of(book)))
     } else {
         Cost::NotEligible
     }

@@ -157,10 +157,10 @@ fn pair(point: u64, book: &[u8], lot: Lot, call: Call) {
     match cost {
         Cost::Of(c) => {
             io::write_all(1, b" COST ");
-            if book::signed::below_zero(c) {
+            if signed::below_zero(c) {
                 io::write_all(1, b"-");
             }
-            io::print_decimal(1, book::signed::size(c));
+            io::print_decimal(1, signed::size(c));
         }
         Cost::NotEligible => {
             io::write_all(1, b" NOT ELIGIBLE");

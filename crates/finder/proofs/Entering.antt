@@ -23,9 +23,9 @@ use Rattle.specification.proofs.Numbers.{u32-drop}
 use Rattle.specification.proofs.Rows.{RowRead}
 use Rattle.specification.proofs.Books.{BookRead, book-length}
 use Rattle.specification.proofs.Starts.{row-is, row-inside, start-next}
-use Rattle.book.specs.Pairs.{onesBelow}
-use Rattle.book.specs.Table.{entry, raisedAt, SetFrom}
-use Rattle.book.proofs.Bits.{ones-below-none, ones-below-set, ones-below-clear, ones-below-all, bit-past, bit-first, bit-after}
+use Rattle.rows.specs.Words.{onesBelow, SetFrom}
+use Rattle.book.specs.Table.{entry, raisedAt}
+use Rattle.rows.proofs.Bits.{ones-below-none, ones-below-set, ones-below-clear, ones-below-all, bit-past, bit-first, bit-after}
 use Rattle.book.proofs.Readable.{Read, readable-is}
 use Rattle.slacks.specs.Slacks.{slackIn, bySlacks, Slacks}
 use Rattle.finder.specs.Filling.{Entered, AtLot}

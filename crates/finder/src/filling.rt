@@ -2,7 +2,7 @@
 use book::inner::all_calls;
 use book::inner::cost_at;
 use book::inner::pair_count;
-use book::inner::set_from;
+use rows::word::set_from;
 use slacks::PAIRS;
 use slacks::SIDE;
 use slacks::SLACK_OF_ZERO;

@@ -115,10 +115,10 @@ fn entries(flow: &[u32]) {
 
 fn signed(v: i64) {
     word(b" ");
-    if book::signed::below_zero(v) {
+    if signed::below_zero(v) {
         word(b"-");
     }
-    io::print_decimal(1, book::signed::size(v));
+    io::print_decimal(1, signed::size(v));
 }
 
 fn verdict(name: &[u8], units: u64, cost: i64) {

@@ -17,7 +17,7 @@ use Rattle.specification.proofs.Numbers.{u32-drop}
 use Rattle.specification.proofs.Rows.{RowRead}
 use Rattle.specification.proofs.Books.{BookRead}
 use Rattle.specification.proofs.Starts.{row-is, row-inside}
-use Rattle.book.proofs.Bits.{bit-below}
+use Rattle.rows.proofs.Bits.{bit-below}
 use Rattle.book.proofs.Readable.{readable-is}
 use Rattle.words.specs.Words.{Without}
 use Rattle.words.proofs.Sets.{bit-none}

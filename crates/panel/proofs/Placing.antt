@@ -32,7 +32,7 @@ use Rattle.specification.specs.Find.{orderOr13, foundToRun, findAndRun, findAnd
 use Rattle.specification.specs.Reserves.{WithinLots}
 use Rattle.specification.proofs.AmountsFiles.{book-of-amounts}
 use Rattle.specification.proofs.Flows.{length-flowOf}
-use Rattle.book.proofs.Bits.{bit-below}
+use Rattle.rows.proofs.Bits.{bit-below}
 use Rattle.book.proofs.Readable.{Read, counts-are}
 use Rattle.words.proofs.Sets.{bit-none}
 use Rattle.slacks.specs.Slacks.{slackIn}

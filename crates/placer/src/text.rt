@@ -51,8 +51,8 @@ fn signed_number(out: &mut [u8], at: usize, v: i64) -> usize
     requires { ⌜ Room (now out) at (decimalℤ v) ⌝ }
     ensures { λ r. ⌜ Appended at (now (out .entry)) (decimalℤ v) r (now (out .exit)) ⌝ }
 {
-    let size = book::signed::size(v);
-    if book::signed::below_zero(v) {
+    let size = signed::size(v);
+    if signed::below_zero(v) {
         let next = put(out, at, b'-');
         return number(out, next, size);
     }

@@ -1,4 +1,2 @@
--- What is proved of the answers for C, apart from the code.
-pub mod Signs  -- a cost as 64 bits, and read back
+-- What is proved of the exports, apart from the code.
 pub mod Stretches  -- where the costs of a lot stand in its book
-pub mod Examples  -- each verdict and a cost below zero, by examples

@@ -1,4 +1,3 @@
--- What a call hands back to C.
-pub mod Answers  -- each reply in six numbers, and a stretch in two
-pub mod Signed  -- what C reads of a cost
+-- What a call hands back to C, apart from its reply.
+pub mod Stretches  -- a stretch of the book, in two numbers
 pub mod Version  -- the version, in one number

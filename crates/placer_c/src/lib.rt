@@ -1,7 +1,6 @@
 // The entry points for C (include/placer.h). Each takes slices as a pointer and a count of elements, calls the entry point of document 01,
 // and hands its answer back as numbers.
-mod told;
-
+use answers::Answer;
 use specification::Call;
 use specification::Lot;
 ghost use mathlib.Core.Path.{_≡_};
@@ -13,17 +12,9 @@ ghost use Rattle.specification.specs.Run.{runOrder, runFlow};
 ghost use Rattle.specification.specs.Find.{findOrder, findBuffer, findAndRun, findAndRunFlow};
 ghost use Rattle.specification.specs.Idle.{findAndRunIdle, findAndRunIdleFlow};
 ghost use Rattle.specification.specs.Panel.{findAndRunPanel, findAndRunPanelFlow};
-ghost use Rattle.placer_c.specs.Answers.{answerOf, counts, costOf, number, placed, stretchOf};
+ghost use Rattle.answers.specs.Answers.{answerOf, counts, costOf, number, placed};
+ghost use Rattle.placer_c.specs.Stretches.{stretchOf};
 ghost use Rattle.placer_c.specs.Version.{version};
-
-// A reply: 0 or the refusal's number; 1 for Full, 2 for Short, 3 for Covered, else 0; and up to four values, the others 0. A cost is a
-// 64-bit two's complement number.
-#[repr(C)]
-pub struct Answer {
-    pub number: u32,
-    pub verdict: u32,
-    pub values: [u64; 4],
-}
 
 // A stretch of the caller's book, in bytes.
 #[repr(C)]
@@ -37,7 +28,7 @@ pub struct Stretch {
 pub extern "C" fn placer_read_book(book: &[u8]) -> Answer
     ensures { λ r. ⌜ r ≡ answerOf counts (readBook (now (book .entry))) ⌝ }
 {
-    told::counts(book::read_book(book))
+    answers::counts(book::read_book(book))
 }
 
 // The costs of a lot, four bytes each, as a stretch of the book; 0, 0 where it is empty.
@@ -62,7 +53,7 @@ pub extern "C" fn placer_lot_costs(book: &[u8], lot: usize) -> Stretch
 pub extern "C" fn placer_pair_cost(book: &[u8], lot: usize, call: usize) -> Answer
     ensures { λ r. ⌜ r ≡ answerOf costOf (pairCost (now (book .entry)) lot call) ⌝ }
 {
-    told::cost(book::pair_cost(book, Lot(lot), Call(call)))
+    answers::cost(book::pair_cost(book, Lot(lot), Call(call)))
 }
 
 // Reads amounts with their book: n and m.
@@ -70,7 +61,7 @@ pub extern "C" fn placer_pair_cost(book: &[u8], lot: usize, call: usize) -> Answ
 pub extern "C" fn placer_read_amounts(book: &[u8], amounts: &[u8]) -> Answer
     ensures { λ r. ⌜ r ≡ answerOf counts (readAmounts (now (book .entry)) (now (amounts .entry))) ⌝ }
 {
-    told::counts(amounts::read_amounts(book, amounts))
+    answers::counts(amounts::read_amounts(book, amounts))
 }
 
 // Checks an order: its count of pairs.
@@ -78,7 +69,7 @@ pub extern "C" fn placer_read_amounts(book: &[u8], amounts: &[u8]) -> Answer
 pub extern "C" fn placer_check_order(book: &[u8], order: &[u8]) -> Answer
     ensures { λ r. ⌜ r ≡ answerOf number (checkOrder (now (book .entry)) (now (order .entry))) ⌝ }
 {
-    told::checked(order::check_order(book, order))
+    answers::checked(order::check_order(book, order))
 }
 
 // Runs an order that passes the check: units and cost, and the units of each pair in the flow.
@@ -94,7 +85,7 @@ pub extern "C" fn placer_run_order(
     ensures { λ _.
         ⌜ now (flow .exit) ≡ runFlow (now (book .entry)) (now (order .entry)) (now (amounts .entry)) (now (flow .entry)) ⌝ }
 {
-    told::placed(run::run_order(book, order, amounts, flow))
+    answers::placed(run::run_order(book, order, amounts, flow))
 }
 
 // Finds an order and writes its file: the length of the file.
@@ -103,7 +94,7 @@ pub extern "C" fn placer_find_order(book: &[u8], order: &mut [u8]) -> Answer
     ensures { λ r. ⌜ r ≡ answerOf number (findOrder (now (book .entry)) (now (order .entry))) ⌝ }
     ensures { λ _. ⌜ now (order .exit) ≡ findBuffer (now (book .entry)) (now (order .entry)) ⌝ }
 {
-    told::found(finder::find_order(book, order))
+    answers::found(finder::find_order(book, order))
 }
 
 // Finds an order and runs it: units and cost, and the units of each pair in the flow.
@@ -112,7 +103,7 @@ pub extern "C" fn placer_find_and_run(book: &[u8], amounts: &[u8], flow: &mut [u
     ensures { λ r. ⌜ r ≡ answerOf placed (findAndRun (now (book .entry)) (now (amounts .entry)) (now (flow .entry))) ⌝ }
     ensures { λ _. ⌜ now (flow .exit) ≡ findAndRunFlow (now (book .entry)) (now (amounts .entry)) (now (flow .entry)) ⌝ }
 {
-    told::placed(placer::find_and_run(book, amounts, flow))
+    answers::placed(placer::find_and_run(book, amounts, flow))
 }
 
 // The same with an idle call, whose amount is what the lots have more than the calls: units and cost of the book's own calls, and their flow.
@@ -121,7 +112,7 @@ pub extern "C" fn placer_find_and_run_idle(book: &[u8], amounts: &[u8], flow: &m
     ensures { λ r. ⌜ r ≡ answerOf placed (findAndRunIdle (now (book .entry)) (now (amounts .entry)) (now (flow .entry))) ⌝ }
     ensures { λ _. ⌜ now (flow .exit) ≡ findAndRunIdleFlow (now (book .entry)) (now (amounts .entry)) (now (flow .entry)) ⌝ }
 {
-    told::placed(placer::find_and_run_idle(book, amounts, flow))
+    answers::placed(placer::find_and_run_idle(book, amounts, flow))
 }
 
 // The ticket panel's: at most 8 lots and 8 calls, and within these it answers and writes as `placer_find_and_run` does.
@@ -130,7 +121,7 @@ pub extern "C" fn placer_find_and_run_panel(book: &[u8], amounts: &[u8], flow: &
     ensures { λ r. ⌜ r ≡ answerOf placed (findAndRunPanel (now (book .entry)) (now (amounts .entry)) (now (flow .entry))) ⌝ }
     ensures { λ _. ⌜ now (flow .exit) ≡ findAndRunPanelFlow (now (book .entry)) (now (amounts .entry)) (now (flow .entry)) ⌝ }
 {
-    told::placed(placer::find_and_run_panel(book, amounts, flow))
+    answers::placed(placer::find_and_run_panel(book, amounts, flow))
 }
 
 // The version of the library, that of include/placer.h: major, minor and patch in one number.

@@ -21,7 +21,7 @@ use Rattle.specification.specs.Idle.{enlarged}
 use Rattle.specification.proofs.Costs.{base-within, raised-is, raised-within}
 use Rattle.specification.proofs.Rows.{RowRead}
 use Rattle.specification.proofs.Books.{book-lifts}
-use Rattle.book.proofs.Bits.{bit-below}
+use Rattle.rows.proofs.Bits.{bit-below}
 use Rattle.book.proofs.Readable.{Read}
 use Rattle.slacks.specs.Slacks.{slackIn, bySlack}
 

@@ -9,7 +9,7 @@ use lib.Dec.{T, eqb, eqb→eq}
 use lib.Bits.{bitAnd, bitOr, bitXor, and-le-l, xor-lt, xor-add-and, and-comm}
 use lib.Pow.{pow-pos, field, mod-mod-pow, pow-mono}
 use Rattle.specification.specs.Book.{bit}
-use Rattle.book.proofs.Bits.{bit-past}
+use Rattle.rows.proofs.Bits.{bit-past}
 use Rattle.words.specs.Words.{Below, Minus, Without, IncludingIf}
 use Rattle.words.proofs.Sets.{bit-or, bit-and, bit-xor, bit-single, cut-same}
 use Rattle.words.proofs.Ends.{lowest-is}

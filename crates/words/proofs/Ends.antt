@@ -11,7 +11,7 @@ use lib.Count.{leadingZeros, leading-top, trailingZeros}
 use lib.Pow.{pow-mono}
 use Rattle.transport.proofs.Laws.Tests.{positive, false-of}
 use Rattle.specification.specs.Book.{bit}
-use Rattle.book.proofs.Bits.{bit-past, trails, trails-lt}
+use Rattle.rows.proofs.Bits.{bit-past, trails, trails-lt}
 use Rattle.words.specs.Words.{LowestIn, HighestIn}
 use Rattle.words.proofs.Sets.{bit-none}
 

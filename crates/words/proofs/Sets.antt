@@ -15,7 +15,7 @@ use Rattle.transport.specs.Finder.{every}
 use Rattle.transport.proofs.Laws.Tests.{T-ext, and-says, implies-says, implies-of}
 use Rattle.transport.proofs.Laws.Searches.{every-says, every-of}
 use Rattle.specification.specs.Book.{bit}
-use Rattle.book.proofs.Bits.{digit-first, digit-next}
+use Rattle.rows.proofs.Bits.{digit-first, digit-next}
 
 -- a digit is 0 or 1
 digit-lt : (w l : ℕ) → w / 2 ^ l % 2 < 2

@@ -1,7 +1,7 @@
 -- `placer_check_order` meets its contract by what `order::check_order` and `told::checked` ensure.
 use mathlib.Core.Path.{_∙_, ap}
 use borrow.Author.Needs.{needs}
-use Rattle.placer_c.specs.Answers.{answerOf, number}
+use Rattle.answers.specs.Answers.{answerOf, number}
 use Rattle.placer_c.proofs.placer_check_order.Statement.{statement}
 use Rattle.placer_c.proofs.placer_check_order.Tie as tie
 

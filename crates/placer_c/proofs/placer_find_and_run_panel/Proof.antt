@@ -1,7 +1,7 @@
 -- `placer_find_and_run_panel` meets its contract by what `placer::find_and_run_panel` and `told::placed` ensure.
 use mathlib.Core.Path.{_∙_, ap}
 use borrow.Author.Needs.{needs}
-use Rattle.placer_c.specs.Answers.{answerOf, placed}
+use Rattle.answers.specs.Answers.{answerOf, placed}
 use Rattle.placer_c.proofs.placer_find_and_run_panel.Statement.{statement}
 use Rattle.placer_c.proofs.placer_find_and_run_panel.Tie as tie
 

@@ -1,7 +1,7 @@
 -- `placer_find_order` meets its contract by what `finder::find_order` and `told::found` ensure.
 use mathlib.Core.Path.{_∙_, ap}
 use borrow.Author.Needs.{needs}
-use Rattle.placer_c.specs.Answers.{answerOf, number}
+use Rattle.answers.specs.Answers.{answerOf, number}
 use Rattle.placer_c.proofs.placer_find_order.Statement.{statement}
 use Rattle.placer_c.proofs.placer_find_order.Tie as tie
 

@@ -7,7 +7,7 @@ use mathlib.Core.List.{[]}
 use native.Mathlib.Omega.{arith}
 use lib.ListN.{length}
 use Rattle.specification.specs.Book.{readBook, lotCosts}
-use Rattle.placer_c.specs.Answers.{stretchOf}
+use Rattle.placer_c.specs.Stretches.{stretchOf}
 use Rattle.placer_c.proofs.Stretches.{CostsStand, costs-stand, nil-of-length}
 use Rattle.placer_c.proofs.placer_lot_costs.Statement.{statement}
 use Rattle.placer_c.proofs.placer_lot_costs.Tie as tie

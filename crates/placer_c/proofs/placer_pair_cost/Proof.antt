@@ -1,7 +1,7 @@
 -- `placer_pair_cost` meets its contract by what `book::pair_cost` and `told::cost` ensure.
 use mathlib.Core.Path.{_∙_, ap}
 use borrow.Author.Needs.{needs}
-use Rattle.placer_c.specs.Answers.{answerOf, costOf}
+use Rattle.answers.specs.Answers.{answerOf, costOf}
 use Rattle.placer_c.proofs.placer_pair_cost.Statement.{statement}
 use Rattle.placer_c.proofs.placer_pair_cost.Tie as tie
 

@@ -1,7 +1,7 @@
 -- `placer_read_amounts` meets its contract by what `amounts::read_amounts` and `told::counts` ensure.
 use mathlib.Core.Path.{_∙_, ap}
 use borrow.Author.Needs.{needs}
-use Rattle.placer_c.specs.Answers.{answerOf, counts}
+use Rattle.answers.specs.Answers.{answerOf, counts}
 use Rattle.placer_c.proofs.placer_read_amounts.Statement.{statement}
 use Rattle.placer_c.proofs.placer_read_amounts.Tie as tie
 

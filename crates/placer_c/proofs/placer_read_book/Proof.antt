@@ -1,7 +1,7 @@
 -- `placer_read_book` meets its contract by what `book::read_book` and `told::counts` ensure.
 use mathlib.Core.Path.{_∙_, ap}
 use borrow.Author.Needs.{needs}
-use Rattle.placer_c.specs.Answers.{answerOf, counts}
+use Rattle.answers.specs.Answers.{answerOf, counts}
 use Rattle.placer_c.proofs.placer_read_book.Statement.{statement}
 use Rattle.placer_c.proofs.placer_read_book.Tie as tie
 

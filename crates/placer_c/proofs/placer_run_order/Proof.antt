@@ -1,7 +1,7 @@
 -- `placer_run_order` meets its contract by what `run::run_order` and `told::placed` ensure.
 use mathlib.Core.Path.{_∙_, ap}
 use borrow.Author.Needs.{needs}
-use Rattle.placer_c.specs.Answers.{answerOf, placed}
+use Rattle.answers.specs.Answers.{answerOf, placed}
 use Rattle.placer_c.proofs.placer_run_order.Statement.{statement}
 use Rattle.placer_c.proofs.placer_run_order.Tie as tie
 

@@ -3,7 +3,7 @@ use borrow.Author.Needs.{needs}
 use mathlib.Core.Path.{refl}
 use native.Mathlib.Omega.{arith}
 use lib.Pow.{pow-pos}
-use Rattle.book.proofs.Bits.{bit-past, below-power, one-shifted}
+use Rattle.rows.proofs.Bits.{bit-past, below-power, one-shifted}
 use Rattle.words.proofs.Changes.{below-is}
 use Rattle.words.proofs.below.Statement.{statement}
 use Rattle.words.proofs.below.Tie as tie

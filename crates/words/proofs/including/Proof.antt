@@ -1,6 +1,6 @@
 -- `words::including` meets its contract: a single number joined to the word (`including-is`).
 use borrow.Author.Needs.{needs}
-use Rattle.book.proofs.Bits.{one-shifted}
+use Rattle.rows.proofs.Bits.{one-shifted}
 use Rattle.words.proofs.Changes.{including-is}
 use Rattle.words.proofs.including.Statement.{statement}
 use Rattle.words.proofs.including.Tie as tie

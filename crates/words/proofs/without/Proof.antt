@@ -1,6 +1,6 @@
 -- `words::without` meets its contract: the word less a single number (`without-is`).
 use borrow.Author.Needs.{needs}
-use Rattle.book.proofs.Bits.{one-shifted}
+use Rattle.rows.proofs.Bits.{one-shifted}
 use Rattle.words.proofs.Changes.{without-is}
 use Rattle.words.proofs.without.Statement.{statement}
 use Rattle.words.proofs.without.Tie as tie

@@ -5,7 +5,7 @@ use Prim.Native.Nat.{_+_, _*_, _-_, _≤_}
 use native.Mathlib.Omega.{arith}
 use lib.Count.{ones, ones-le}
 use Rattle.specification.specs.Book.{bit}
-use Rattle.book.proofs.Bits.{bit-first, bit-after}
+use Rattle.rows.proofs.Bits.{bit-first, bit-after}
 use Rattle.book.proofs.Entering.{Entered, entered-none, entered-set, entered-all}
 use Rattle.book.proofs.inner.enter_first.Statement.{statement}
 use Rattle.book.proofs.inner.enter_first.Tie as tie

@@ -5,8 +5,8 @@ use mathlib.Core.Bool.{true}
 use Prim.Native.Nat.{_-_, _≤_, _<_}
 use native.Mathlib.Omega.{arith}
 use Rattle.specification.specs.Book.{bit}
-use Rattle.book.specs.Pairs.{onesBelow}
-use Rattle.book.proofs.Bits.{ones-below-le}
+use Rattle.rows.specs.Words.{onesBelow}
+use Rattle.rows.proofs.Bits.{ones-below-le}
 use Rattle.book.proofs.Entering.{Entered, entered-none, entered-set, entered-to, entered-all}
 use Rattle.book.proofs.inner.enter_set.Statement.{statement}
 use Rattle.book.proofs.inner.enter_set.Tie as tie

@@ -5,7 +5,7 @@ use native.Mathlib.Omega.{arith}
 use borrow.Author.Count.{below-none, below-more}
 use lib.ListN.{length, getD, length-set}
 use lib.Seq.{getD-set-same, getD-set-other}
-use Rattle.book.proofs.Bits.{one-shifted}
+use Rattle.rows.proofs.Bits.{one-shifted}
 use Rattle.order.proofs.gaps.singles.Statement.{statement}
 use Rattle.order.proofs.gaps.singles.Tie as tie
 

@@ -1,0 +1,12 @@
+-- `answers::refused` meets its contract by what `files::number` and `values_of` ensure.
+use borrow.Author.Needs.{needs}
+use Rattle.answers.proofs.refused.Statement.{statement}
+use Rattle.answers.proofs.refused.Tie as tie
+
+pub refused-spec : {M : Type 1} → statement M
+refused-spec =
+    tie.close
+    (tie.spec
+    (λ c κs. search needs)
+    (λ c κs. search needs)
+    (λ c. rw (c .before .number .ensures, c .values-of .ensures)))
