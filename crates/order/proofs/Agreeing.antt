@@ -5,9 +5,11 @@ use mathlib.Core.List.{List, [], _∷_}
 use Prim.Native.Nat.{ℕ, suc, _+_, _*_}
 use native.Mathlib.Omega.{arith}
 use borrow.Author.Tests.{le-ltb}
+use lib.Dec.{T}
 use lib.ListN.{length}
+use Rattle.transport.specs.Problem.{Eligible}
 use Rattle.transport.specs.Greedy.{Pair}
-use Rattle.transport.proofs.Laws.Tests.{T-ext}
+use Rattle.transport.proofs.Laws.Tests.{T-true, T-ext}
 use Rattle.transport.proofs.Finder.Same.{Same, eligible-of-same, same-sym}
 use Rattle.specification.specs.Reply.{gives, Size}
 use Rattle.specification.specs.Bytes.{orderMark, readOpening}
@@ -16,8 +18,13 @@ use Rattle.specification.specs.OrderFile.{orderCount, orderPairs}
 use Rattle.specification.specs.Check.{checkPairs, checkOrder}
 use Rattle.specification.proofs.Books.{admitted-inside}
 use Rattle.book.specs.Table.{admitsBy, problemBy}
+use Rattle.walk.proofs.Eligibles.{admitted-in}
 use Rattle.order.specs.Answers.{checkedPairs}
-use Rattle.order.proofs.Eligibles.{inside-table}
+
+-- a pair that the table admits is eligible
+inside-table : (book table : List ℕ) (n m i j : ℕ) → T (problemBy book table n m .admits i j) → Eligible (problemBy book table n m) i j
+inside-table book table n m i j t = let (in-lots, in-calls, _) = admitted-in table n m i j (T-true (admitsBy table n m i j) t) in
+    (in-lots, in-calls, t)
 
 module _ (book table : List ℕ) (n m : ℕ) (same : Same (problemBy book table n m) (problemOf book)) where
   admits-are : (i j : ℕ) → admitsBy table n m i j ≡ problemOf book .admits i j

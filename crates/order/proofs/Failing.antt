@@ -25,10 +25,13 @@ use Rattle.files.specs.Files.{statedStep}
 use Rattle.files.specs.declared.Step.{Step}
 use Rattle.files.specs.declared.Step.the-variants.{Passes, Refused}
 use Rattle.book.specs.Table.{entry}
-use Rattle.order.specs.Places.{orderPair, rest, metAt, Shows}
-use Rattle.order.specs.Answers.{freeAt, LowestNotFree, quadrupleAt}
-use Rattle.order.proofs.Placing.{rest-more, rest-none, met-later, lists-from}
-use Rattle.order.proofs.Scanning.{turn-gives, turn-same}
+use Rattle.walk.specs.Places.{orderPair, rest}
+use Rattle.walk.specs.Walk.{freeAt, LowestNotFree}
+use Rattle.walk.proofs.Placing.{rest-more, rest-none, lists-from}
+use Rattle.quadruples.specs.Scan.{quadrupleAt}
+use Rattle.quadruples.proofs.Scanning.{turn-gives, turn-same}
+use Rattle.order.specs.Noted.{metAt, Shows}
+use Rattle.order.proofs.Noting.{met-later}
 
 -- all quadruples of the pair p, by the pairs S that stand after it
 abbrev quadruples : Problem → Pair → List Pair → Reply (Unit {0})

@@ -10,8 +10,8 @@ use Rattle.specification.specs.declared.Refusal.{Refusal}
 use Rattle.specification.specs.declared.Refusal.the-variants.{PairNotEligible, PairMetBefore}
 use Rattle.files.specs.declared.Step.the-variants.{Passes, Refused}
 use Rattle.book.specs.Table.{entry, admitsBy}
+use Rattle.walk.proofs.Eligibles.{admitted-in}
 use Rattle.order.specs.Answers.{Met}
-use Rattle.order.proofs.Eligibles.{admitted-in}
 
 pub refused-not-passes : {A : Type 0} (r : Refusal) → Refused r ≡ Passes → A
 refused-not-passes r e = let z : _≡_ {A = ℕ} 0 1 = cc in absurd (omega arith)

@@ -30,16 +30,20 @@ use Rattle.specification.proofs.Books.{admitted-inside}
 use Rattle.book.specs.Table.{problemBy}
 use Rattle.book.proofs.Readable.{Read, counts-are}
 use Rattle.book.proofs.Tables.{lot-few, call-few, not-eligible-at, offsets-tabled, offsets-packed, offsets-worded, problem-same}
-use Rattle.order.specs.Places.{orderPair, rest, metAt}
-use Rattle.order.specs.Asked.{Held, Walkable, CanScan, CanSettle}
+use Rattle.walk.specs.Places.{orderPair, rest}
+use Rattle.walk.specs.Walk.{Walkable, freeAt, LowestNotFree, Walked}
+use Rattle.walk.proofs.Placing.{rest-more, lists-from}
+use Rattle.quadruples.specs.Scan.{CanScan, quadrupleAt}
+use Rattle.quadruples.proofs.Replies.{goes-on, stops}
+use Rattle.order.specs.Noted.{metAt}
+use Rattle.order.specs.Asked.{Held, CanSettle}
 use Rattle.files.specs.Files.{statedStep}
-use Rattle.order.specs.Answers.{freeAt, LowestNotFree, Walked, quadrupleAt, countAfter, checkedPairs}
+use Rattle.order.specs.Answers.{countAfter, checkedPairs}
 use Rattle.specification.specs.declared.Refusal.{Refusal}
 use Rattle.files.specs.declared.Step.{Step}
 use Rattle.files.specs.declared.Step.the-variants.{Passes, Refused}
-use Rattle.order.proofs.Placing.{rest-more, lists-from, met-late, met-later}
+use Rattle.order.proofs.Noting.{met-late, met-later}
 use Rattle.order.proofs.Failing.{nothing-fails, first-failure, quadruples-by-array}
-use Rattle.order.proofs.Replies.{goes-on, stops}
 
 pub rest-whole : (order : List ℕ) (count : ℕ) → rest order count 0 ≡ pairs count (drop 7 order)
 rest-whole order count = rw (sub-zero count)

@@ -1,6 +1,6 @@
 -- One turn of the walk that notes places: what `meet` answers is the specification's answer to the pair at the place, and the array
 -- afterwards holds the places up to and with it.
-use mathlib.Core.Path.{_≡_}
+use mathlib.Core.Path.{_≡_, refl}
 use mathlib.Core.Logic.{by-cases}
 use mathlib.Core.Bool.{Bool, not}
 use mathlib.Core.List.{List, [], _∷_}
@@ -9,18 +9,24 @@ use native.Mathlib.Numerals.{add-one}
 use native.Mathlib.Omega.{arith}
 use lib.Dec.{ltb}
 use Rattle.transport.proofs.Laws.Tests.{T?, T-true, T-false}
-use Rattle.specification.specs.Reply.{Reply, refuseIf, _>>=_}
+use Rattle.specification.specs.Reply.{Reply, gives, refuses, refuseIf, _>>=_}
 use Rattle.specification.specs.Check.{checkPairs}
 use Rattle.files.specs.declared.Step.{Step}
 use Rattle.files.specs.declared.Step.the-variants.{Passes}
 use Rattle.files.specs.Files.{statedStep}
 use Rattle.book.specs.Table.{entry, admitsBy, problemBy}
-use Rattle.order.specs.Places.{orderPair, rest, passed, metAt, Shows}
+use Rattle.walk.specs.Places.{orderPair, rest}
+use Rattle.walk.proofs.Eligibles.{admitted-in}
+use Rattle.walk.proofs.Placing.{rest-more}
+use Rattle.order.specs.Noted.{passed, metAt, Shows}
 use Rattle.order.specs.Answers.{Met}
-use Rattle.order.proofs.Eligibles.{admitted-in}
 use Rattle.order.proofs.Arrays.{shows-set}
-use Rattle.order.proofs.Placing.{rest-more, met-passed}
-use Rattle.order.proofs.Replies.{then-assoc}
+use Rattle.order.proofs.Noting.{met-passed}
+
+-- replies one after another
+then-assoc : {A : Type 0} (a b : Reply (Unit {0})) (c : Reply A) → (a >>= λ _. (b >>= λ _. c)) ≡ ((a >>= λ _. b) >>= λ _. c)
+then-assoc (gives u) b c = refl
+then-assoc (refuses k vs) b c = refl
 
 module _ (table order : List ℕ) (count n m : ℕ) (few-lots : n ≤ 32) (few-calls : m ≤ 32) where
   -- 9, then 10, by a test of whether the pair was met

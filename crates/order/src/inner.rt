@@ -10,7 +10,7 @@ ghost use Rattle.specification.specs.Reply.{gives, statedChecked};
 ghost use Rattle.specification.specs.OrderFile.{pairs};
 ghost use Rattle.files.specs.Files.{statedStep};
 ghost use Rattle.book.specs.Pairs.{offsetTable};
-ghost use Rattle.order.specs.Places.{rest};
+ghost use Rattle.walk.specs.Places.{rest};
 ghost use Rattle.order.specs.Asked.{Held, CanWalk, CanSettle};
 ghost use Rattle.order.specs.Answers.{countAfter, checkedPairs};
 
@@ -38,19 +38,19 @@ fn settle(
     requires { ⌜ CanSettle (now book) (now offsets) (now starts) (now places) (now order) count n m ⌝ }
     ensures { λ r. ⌜ statedStep r ≡ checkMonge (problemOf (now (book .entry))) (rest (now (order .entry)) count 0) ⌝ }
 {
-    let lowest = super::walk::walk(book, offsets, starts, m, order, count);
+    let lowest = walk::walk(book, offsets, starts, m, order, count);
     if lowest == count {
         return Step::Passes;
     }
-    super::scan::pair_failure(
+    quadruples::scan::pair_failure(
         book,
         offsets,
         places,
         n,
         m,
         lowest,
-        super::places::lot_at(order, lowest),
-        super::places::call_at(order, lowest),
+        walk::places::lot_at(order, lowest),
+        walk::places::call_at(order, lowest),
     )
 }
 

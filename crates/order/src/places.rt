@@ -3,27 +3,12 @@ use files::Step;
 use specification::Call;
 use specification::Lot;
 use specification::Refusal;
-ghost use mathlib.Core.Path.{_≡_};
-ghost use Prim.Native.Nat.{_+_, _*_, _<_, _≤_};
-ghost use lib.ListN.{length};
-ghost use Rattle.order.specs.Places.{orderPair, Shows};
+use walk::places::call_at;
+use walk::places::lot_at;
+ghost use Prim.Native.Nat.{_<_, _≤_};
+ghost use Rattle.order.specs.Noted.{Shows};
 ghost use Rattle.order.specs.Asked.{CanWalk};
 ghost use Rattle.order.specs.Answers.{Met, PlacesFilled};
-
-// The lot and the call of the pair at a place of an order file.
-pub fn lot_at(order: &[u8], place: usize) -> Lot
-    requires { ⌜ 7 + 2 * place + 2 ≤ length (now order) ⌝ }
-    ensures { λ r. ⌜ r .0 ≡ orderPair (now (order .entry)) place .lot ⌝ }
-{
-    Lot(files::wide(order[7 + 2 * place]))
-}
-
-pub fn call_at(order: &[u8], place: usize) -> Call
-    requires { ⌜ 7 + 2 * place + 2 ≤ length (now order) ⌝ }
-    ensures { λ r. ⌜ r .0 ≡ orderPair (now (order .entry)) place .call ⌝ }
-{
-    Call(files::wide(order[7 + 2 * place + 1]))
-}
 
 // One pair of an order, at a place: refused where it is not eligible or was met before, and else its place is noted, one more than it is.
 fn meet(

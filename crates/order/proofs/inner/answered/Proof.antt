@@ -1,7 +1,7 @@
 -- `order::inner::answered` meets its contract: the count comes after a step that passes, and nothing after a refusal.
 use mathlib.Core.Path.{sym}
 use borrow.Author.Needs.{needs}
-use Rattle.order.proofs.Replies.{goes-on, stops}
+use Rattle.quadruples.proofs.Replies.{goes-on, stops}
 use Rattle.order.proofs.inner.answered.Statement.{statement}
 use Rattle.order.proofs.inner.answered.Tie as tie
 

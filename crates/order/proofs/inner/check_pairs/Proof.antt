@@ -17,7 +17,7 @@ use Rattle.files.specs.Files.{statedStep}
 use Rattle.specification.proofs.Books.{admitted-inside}
 use Rattle.book.proofs.Readable.{counts-are}
 use Rattle.book.proofs.Counted.{book-counted}
-use Rattle.order.specs.Places.{rest}
+use Rattle.walk.specs.Places.{rest}
 use Rattle.order.specs.Answers.{checkedPairs}
 use Rattle.order.proofs.Arrays.{shows-all}
 use Rattle.order.proofs.Agreeing.{pairs-by-table}

@@ -7,11 +7,12 @@ use native.Mathlib.Omega.{arith}
 use borrow.Author.Needs.{needs}
 use Rattle.specification.specs.Check.{checkPairs}
 use Rattle.book.specs.Table.{problemBy}
-use Rattle.order.specs.Places.{rest, passed, metAt, Shows}
+use Rattle.walk.specs.Places.{rest}
+use Rattle.walk.proofs.Placing.{rest-none}
+use Rattle.quadruples.proofs.Replies.{goes-on, stops}
+use Rattle.order.specs.Noted.{passed, metAt, Shows}
 use Rattle.files.specs.Files.{statedStep}
 use Rattle.order.proofs.Meeting.{refused-not-passes}
-use Rattle.order.proofs.Placing.{rest-none}
-use Rattle.order.proofs.Replies.{goes-on, stops}
 use Rattle.order.proofs.Turns.{turn-says, turn-shows}
 use Rattle.order.proofs.places.fill_places.Statement.{statement}
 use Rattle.order.proofs.places.fill_places.Tie as tie

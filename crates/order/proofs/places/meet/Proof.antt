@@ -6,7 +6,7 @@ use native.Mathlib.Omega.{arith}
 use borrow.Author.Needs.{needs}
 use borrow.Author.Tests.{not-true, not-false}
 use Rattle.book.specs.Table.{admitsBy}
-use Rattle.order.proofs.Eligibles.{admitted-in}
+use Rattle.walk.proofs.Eligibles.{admitted-in}
 use Rattle.order.proofs.Meeting.{met-not-eligible, met-before, met-noted}
 use Rattle.order.proofs.places.meet.Statement.{statement}
 use Rattle.order.proofs.places.meet.Tie as tie
