@@ -1,7 +1,5 @@
 // What a program calls: finding an order and running it in one call (document 01, "Finding an order"), also with an idle call (document 02,
 // request 2) and for the ticket panel (request 6), and the text that is printed of a run ("The printing program").
-mod text;
-
 use run::inner::Remaining;
 use slacks::Search;
 use specification::Counts;
@@ -16,7 +14,7 @@ ghost use Rattle.specification.specs.Idle.{findAndRunIdle, findAndRunIdleFlow};
 ghost use Rattle.specification.specs.Panel.{aboveEight, readPanel, findAndRunPanel, findAndRunPanelFlow};
 ghost use Rattle.specification.specs.Text.{printed};
 ghost use Rattle.placer.specs.Placing.{Supplied, Places};
-ghost use Rattle.placer.specs.Rendering.{Prints};
+ghost use Rattle.placer.specs.Printing.{Prints};
 
 // The bytes of the longest text: 50 for its first line, and 17 for the line of each of 1,024 pairs.
 pub const TEXT_MOST: usize = 50 + 17 * 1024;

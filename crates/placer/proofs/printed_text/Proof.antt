@@ -2,7 +2,7 @@
 use mathlib.Core.Path.{refl}
 use borrow.Author.Needs.{needs}
 use native.Mathlib.Omega.{arith}
-use Rattle.placer.proofs.Whole.{counts-fit, prints}
+use Rattle.placer.proofs.Printing.{counts-fit, prints}
 use Rattle.placer.proofs.printed_text.Statement.{statement}
 use Rattle.placer.proofs.printed_text.Tie as tie
 
