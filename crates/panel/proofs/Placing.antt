@@ -37,10 +37,11 @@ use Rattle.book.proofs.Readable.{Read, counts-are}
 use Rattle.words.proofs.Sets.{bit-none}
 use Rattle.slacks.specs.Slacks.{slackIn}
 use Rattle.slacks.proofs.Filled.{set-remains, stated-same, stated-lifts}
-use Rattle.run.specs.Run.{Holds, LoadedIn, replyOf}
-use Rattle.run.proofs.Grid.{flow-copied}
-use Rattle.run.proofs.Whole.{all-zero-same, shows-end}
-use Rattle.run.proofs.Supplied.{lots-are, calls-are, can-load, long-enough, lots-fit, loaded-holds}
+use Rattle.remaining.specs.States.{Holds, LoadedIn}
+use Rattle.remaining.specs.Replies.{replyOf}
+use Rattle.remaining.proofs.Grid.{flow-copied}
+use Rattle.remaining.proofs.Ending.{all-zero-same, shows-end}
+use Rattle.remaining.proofs.Loading.{lots-are, calls-are, can-load, long-enough, lots-fit, loaded-holds}
 use Rattle.words.specs.Lefts.{isLeft}
 use Rattle.panel.specs.declared.Remaining.{Remaining}
 use Rattle.panel.specs.declared.search.Taken.{Taken}

@@ -22,8 +22,10 @@ use Rattle.transport.proofs.Finder.Loop.{Loop, loop-start, loop-take, loop-stop
 use Rattle.specification.specs.Costs.{costTop}
 use Rattle.words.specs.Lefts.{isLeft, TakenFrom}
 use Rattle.words.proofs.Lefts.{gone, fewer, gone-agrees}
-use Rattle.run.specs.Run.{Holds, roomOf, Written}
-use Rattle.run.proofs.Steps.{holds-room, no-room-holds, giveAll-falls, written-none, written-put}
+use Rattle.remaining.specs.States.{Holds, roomOf}
+use Rattle.remaining.specs.Replies.{Written}
+use Rattle.remaining.proofs.States.{holds-room, no-room-holds, giveAll-falls}
+use Rattle.remaining.proofs.Writing.{written-none, written-put}
 use Rattle.panel.specs.declared.Remaining.{Remaining}
 use Rattle.panel.specs.Filling.{cell, slackAt}
 use Rattle.panel.specs.Gaps.{LeastCalls, Renewed}

@@ -12,7 +12,8 @@ use Rattle.transport.specs.Finder.{size, find}
 use Rattle.specification.specs.Book.{bit}
 use Rattle.slacks.specs.Slacks.{bySlack, Capped}
 use Rattle.words.specs.Lefts.{isLeft}
-use Rattle.run.specs.Run.{Holds, CanGiveOf, GaveOf, Written}
+use Rattle.remaining.specs.States.{Holds, CanGiveOf, GaveOf}
+use Rattle.remaining.specs.Replies.{Written}
 use Rattle.panel.specs.declared.Remaining.{Remaining}
 use Rattle.panel.specs.declared.search.Next.{Next}
 use Rattle.panel.specs.declared.search.Next.the-variants.{Pair as IsPair, Nothing}

@@ -4,7 +4,7 @@ use super::PAIRS;
 use super::Remaining;
 use super::SIDE;
 use super::gaps::renew;
-use run::inner::smaller;
+use remaining::smaller;
 use slacks::SLACK_MOST;
 use specification::Call;
 use specification::Lot;

@@ -35,9 +35,12 @@ use Rattle.specification.proofs.Books.{head-says, headed-reads}
 use Rattle.book.proofs.Readable.{counts-are}
 use Rattle.finder.specs.Searched.{searched}
 use Rattle.finder.proofs.Idle.{searched-within}
-use Rattle.run.specs.declared.inner.Remaining.{Remaining}
-use Rattle.run.specs.Run.{HoldsState, Loaded, OneCallMore, pairsOf, Accepted, Spans, ShowsEnd, AsGreedy}
-use Rattle.run.proofs.Supplied.{real-part-is, lots-are, calls-are, long-enough, loaded-holds}
+use Rattle.remaining.specs.declared.Remaining.{Remaining}
+use Rattle.remaining.specs.States.{HoldsState, Loaded, OneCallMore}
+use Rattle.remaining.specs.Replies.{ShowsEnd}
+use Rattle.remaining.proofs.Loading.{lots-are, calls-are, long-enough, loaded-holds}
+use Rattle.run.specs.Run.{pairsOf, Accepted, Spans, AsGreedy}
+use Rattle.run.proofs.Supplied.{real-part-is}
 use Rattle.placer.specs.Placing.{Supplied, foundFor, placedBy, flowBy, Places}
 use Rattle.placer.proofs.Found.{IsFile, pairs-are, is-order, as-many}
 

@@ -13,8 +13,8 @@ use Rattle.specification.specs.Book.{readBook, problemOf, costsOf}
 use Rattle.specification.specs.Run.{outcome, flowOf, flowTooShort}
 use Rattle.specification.specs.Find.{orderOr13}
 use Rattle.finder.specs.Searched.{searched}
-use Rattle.run.specs.declared.inner.Remaining.{Remaining}
-use Rattle.run.specs.Run.{HoldsState}
+use Rattle.remaining.specs.declared.Remaining.{Remaining}
+use Rattle.remaining.specs.States.{HoldsState}
 
 -- what is asked: the book is read with its n and m, there is room for an idle call, and the lots' amounts fit an entry of the flow
 pub record Supplied (book : List ℕ) (n m : ℕ) (idle : Bool) (r : Remaining) : Type 0 where

@@ -1,6 +1,7 @@
 // What a program calls: finding an order and running it in one call (document 01, "Finding an order"), also with an idle call (document 02,
 // request 2) and for the ticket panel (request 6), and the text that is printed of a run ("The printing program").
 use run::inner::Remaining;
+use remaining::Remaining;
 use slacks::Search;
 use specification::Counts;
 use specification::Placed;
@@ -60,7 +61,7 @@ pub fn find_and_run(book: &[u8], amounts: &[u8], flow: &mut [u32]) -> Placed
     let Counts::Are(n, m) = counts else {
         return Placed::Refused(files::refusal_of(counts));
     };
-    let remaining = run::inner::remaining_of(amounts, n, m);
+    let remaining = remaining::remaining_of(amounts, n, m);
     find_then_run(book, n, m, false, remaining, flow)
 }
 
@@ -74,11 +75,11 @@ pub fn find_and_run_idle(book: &[u8], amounts: &[u8], flow: &mut [u32]) -> Place
     let Counts::Are(n, m) = counts else {
         return Placed::Refused(files::refusal_of(counts));
     };
-    let real = run::inner::remaining_of(amounts, n, m);
+    let real = remaining::remaining_of(amounts, n, m);
     let lots = real.lots;
     let calls = real.calls;
-    let stock = run::inner::total(lots, n);
-    let wanted = run::inner::total(calls, m);
+    let stock = remaining::total(lots, n);
+    let wanted = remaining::total(calls, m);
     if stock < wanted {
         return Placed::Refused(Refusal::CallsExceedLots);
     }

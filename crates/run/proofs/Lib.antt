@@ -1,6 +1,5 @@
 -- The mathematics of a run, apart from its code.
 pub mod Listing  -- the pairs of an order file, one after another
-pub mod Grid  -- the flow as a list
-pub mod Steps  -- one pair's step, and the loop's progress
+pub mod Steps  -- the loop's progress
 pub mod Whole  -- from the loop's end to the reply
 pub mod Supplied  -- what the entry points hand to the run

@@ -42,6 +42,6 @@ pub fn run_order(book: &[u8], order: &[u8], amounts: &[u8], flow: &mut [u32]) ->
     if flow.len() < n * m {
         return Placed::Refused(Refusal::BufferTooShort);
     }
-    let remaining = inner::remaining_of(amounts, n, m);
+    let remaining = remaining::remaining_of(amounts, n, m);
     inner::run_by(order, count, n, m, remaining, book, flow)
 }

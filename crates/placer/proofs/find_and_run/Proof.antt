@@ -7,7 +7,7 @@ use Rattle.specification.specs.Book.{readBook}
 use Rattle.specification.specs.Amounts.{readAmounts}
 use Rattle.specification.specs.Find.{foundToRun, findAndRun, findAndRunFlow}
 use Rattle.specification.proofs.AmountsFiles.{book-of-amounts}
-use Rattle.run.proofs.Supplied.{can-load, lots-fit, loaded-holds}
+use Rattle.remaining.proofs.Loading.{can-load, lots-fit, loaded-holds}
 use Rattle.placer.proofs.Placing.{plain-is}
 use Rattle.placer.proofs.find_and_run.Statement.{statement}
 use Rattle.placer.proofs.find_and_run.Tie as tie

@@ -11,7 +11,7 @@ use Rattle.specification.specs.Book.{bookCalls, readBook, problemOf}
 use Rattle.specification.specs.Amounts.{lotAmount, callAmount, readAmounts}
 use Rattle.specification.specs.Idle.{lotsTotal, callsTotal, foundToRunIdle, findAndRunIdle, findAndRunIdleFlow}
 use Rattle.specification.proofs.AmountsFiles.{book-of-amounts}
-use Rattle.run.proofs.Supplied.{calls-are, sizes-within, can-load, lots-fit, calls-fit, totals-are}
+use Rattle.remaining.proofs.Loading.{calls-are, sizes-within, can-load, lots-fit, calls-fit, totals-are}
 use Rattle.placer.proofs.Placing.{refused-by-18, refused-by-19, idle-is, idle-held}
 use Rattle.placer.proofs.find_and_run_idle.Statement.{statement}
 use Rattle.placer.proofs.find_and_run_idle.Tie as tie

@@ -11,7 +11,7 @@ use Rattle.specification.specs.Amounts.{readAmounts}
 use Rattle.specification.specs.Find.{foundToRun, findAndRun, findAndRunFlow}
 use Rattle.specification.proofs.AmountsFiles.{book-of-amounts}
 use Rattle.book.proofs.Readable.{counts-are}
-use Rattle.run.proofs.Supplied.{too-short}
+use Rattle.remaining.proofs.Loading.{too-short}
 use Rattle.placer.proofs.Placing.{places-17, plain-is}
 use Rattle.placer.proofs.find_and_run_within.Statement.{statement}
 use Rattle.placer.proofs.find_and_run_within.Tie as tie

@@ -11,7 +11,8 @@ use Rattle.specification.specs.Amounts.{readAmounts}
 use Rattle.specification.specs.Check.{checkOrder}
 use Rattle.specification.specs.Run.{runOrder, runFlow}
 use Rattle.book.proofs.Readable.{counts-are}
-use Rattle.run.proofs.Supplied.{sizes-within, can-load, too-short, read-with, accepted, as-specified}
+use Rattle.remaining.proofs.Loading.{sizes-within, can-load, too-short, read-with}
+use Rattle.run.proofs.Supplied.{accepted, as-specified}
 use Rattle.run.proofs.run_order.Statement.{statement}
 use Rattle.run.proofs.run_order.Tie as tie
 
