@@ -1,6 +1,5 @@
 // What a program calls: finding an order and running it in one call (document 01, "Finding an order"), also with an idle call (document 02,
 // request 2) and for the ticket panel (request 6), and the text that is printed of a run ("The printing program").
-use run::inner::Remaining;
 use remaining::Remaining;
 use slacks::Search;
 use specification::Counts;
