@@ -8,7 +8,7 @@ use Prim.Native.Nat.{ℕ, _+_, _*_, _-_, _^_, _≤_, _<_}
 use native.Mathlib.Decide.{ℕ-discrete}
 use native.Mathlib.Omega.{arith}
 use borrow.Author.Tests.{lt-ltb, eq-eqb}
-use lib.Bits.{bitAnd, or-lt}
+use lib.Bits.{bitAnd, bitOr, or-lt}
 use lib.Dec.{T, T-not, leb, eqb}
 use lib.Pow.{pow-lt}
 use lib.ListN.{length, getD, set, replicate, length-set, length-replicate, getD-replicate}
@@ -27,11 +27,11 @@ use Rattle.transport.proofs.Finder.Backward.{backward, callGap, lowered, leastF
 use Rattle.specification.specs.Bytes.{u32At}
 use Rattle.specification.specs.Costs.{costTop}
 use Rattle.specification.specs.Book.{bit}
-use Rattle.book.specs.Table.{entry, problemBy, Worded}
+use Rattle.book.specs.Table.{entry, problemBy}
 use Rattle.words.proofs.Sets.{bit-none, bit-or, bit-and, bit-single, bit-all, within-exactly}
 use Rattle.walk.specs.Places.{orderPair, rest}
 use Rattle.walk.specs.Gaps.{gapTop, Capped}
-use Rattle.walk.specs.Walk.{sharedWith, markedWith, PairTurned, Walkable, freeAt, LowestNotFree}
+use Rattle.walk.specs.Walk.{Walkable, PairEntered, freeAt, LowestNotFree}
 use Rattle.walk.proofs.Eligibles.{bounded}
 use Rattle.walk.proofs.Arrays.{capped-all}
 use Rattle.walk.proofs.Lowering.{Keeps, keeps-turn, fits-is}
@@ -106,13 +106,14 @@ module _ (book table starts order : List ℕ) (count n m : ℕ) (w : Walkable bo
         ∙ turn-free
 
 -- a lot is eligible for the calls of its row's word, and so for those of a word cut by it
-pub shared-has : (book table starts common : List ℕ) → Worded book table starts → (i j : ℕ) → i < 32 → j < 32 → (entry table i j ≡ 0 → ⊥)
-    → (l : ℕ) → l < 32 → bit (sharedWith book starts common i j) l ≡ true → entry table i l ≡ 0 → ⊥
-shared-has book table starts common worded i j hi hj stands l hl shared none =
-    let word = getD common j 0 in
-    let row = u32At book (getD starts i 0) in
+pub shared-has : (book table starts order : List ℕ) (count m : ℕ) (w : Walkable book table starts order count m) (p : ℕ) → p < count → (i j : ℕ)
+    → i ≡ orderPair order p .lot → j ≡ orderPair order p .call → (word row : ℕ) → row ≡ u32At book (getD starts i 0)
+    → (l : ℕ) → l < 32 → bit (bitAnd word row) l ≡ true → entry table i l ≡ 0 → ⊥
+shared-has book table starts order count m w p h i j lot-is call-is word row row-is l hl shared none =
     let in-row = and-says (bit word l) (bit row l) (subst T (sym shared ∙ bit-and word row l) tt) .1 in
-    T-not (eqb (entry table i l) 0) (subst T (worded .has i j l hi hj hl stands) in-row) (rw (eq-eqb (entry table i l) 0 none) tt)
+    T-not (eqb (entry table i l) 0) (subst T (rw (← row-is) at (w .worded .has i j l (rw lot-is (w .lot-in p h))
+    (omega (arith, call-is, w .call-in p h, w .few-calls)) hl (λ e. w .in-table p h (rw (← lot-is, ← call-is) e)))) in-row)
+    (rw (eq-eqb (entry table i l) 0 none) tt)
 
 -- what the walk keeps from p on: the words of the calls that each lot has pairs with there, the words and least gaps of the calls, and the
 -- lowest place that fails
@@ -143,11 +144,12 @@ walked-none book table order count m few = record {
   );
 }
 
--- the whole turn of the pair (i, j) at p, `next` being the place after it
+-- the whole turn of the pair (i, j) at p, `next` being the place after it, by the word of its lot's row
 module _ (book table starts order : List ℕ) (count m : ℕ) (w : Walkable book table starts order count m)
     (p : ℕ) (h : p < count) (next : ℕ) (next-is : next ≡ p + 1) (i j : ℕ) (lot-is : i ≡ orderPair order p .lot)
-    (call-is : j ≡ orderPair order p .call) (common later least : List ℕ) (lowest : ℕ) (fails : Bool) (common′ later′ least′ : List ℕ)
-    (turned : PairTurned book table starts m i j common later least fails common′ later′ least′)
+    (call-is : j ≡ orderPair order p .call) (common later least after : List ℕ) (row single fits lowest : ℕ)
+    (row-is : row ≡ u32At book (getD starts i 0)) (single-is : single ≡ 2 ^ j)
+    (entered : PairEntered book table m i j (bitAnd (getD common j 0) row) least fits after)
     (so-far : WalkedFrom book table order count m next common later least lowest) where
   lot-few : i < 32
   lot-few = rw lot-is (w .lot-in p h)
@@ -155,21 +157,21 @@ module _ (book table starts order : List ℕ) (count m : ℕ) (w : Walkable book
   call-few : j < 32
   call-few = omega (arith, call-is, w .call-in p h, w .few-calls)
 
-  abbrev row : ℕ
-  row = u32At book (getD starts i 0)
-
   abbrev marked : ℕ
-  marked = markedWith later i j
+  marked = bitOr (getD later i 0) single
 
   marked-small : marked < 2 ^ 32
-  marked-small = or-lt 32 (getD later i 0) (2 ^ j) (so-far .small i lot-few) (pow-lt {j = 32} call-few)
+  marked-small = or-lt 32 (getD later i 0) single (so-far .small i lot-few) (rw single-is (pow-lt {j = 32} call-few))
 
   -- the pair is put into its lot's word, and stands in no other's
   stands-now : (k l : ℕ) → standing (rest order count p) k l ≡ (standing (rest order count next) k l || (eqb k i && eqb l j))
   stands-now k l = rw (lot-is, call-is, next-is, rest-more order count p h) (standing-cons (orderPair order p) (rest order count (p + 1)) k l)
 
+  single-bit : (l : ℕ) → bit single l ≡ eqb l j
+  single-bit l = rw single-is (bit-single j l)
+
   marked-is : (l : ℕ) → bit marked l ≡ standing (rest order count p) i l
-  marked-is l = bit-or (getD later i 0) (2 ^ j) l ∙ ap₂ _||_ (so-far .marked i l lot-few) (bit-single j l)
+  marked-is l = bit-or (getD later i 0) single l ∙ ap₂ _||_ (so-far .marked i l lot-few) (single-bit l)
       ∙ sym (stands-now i l ∙ rw (eqb-true i))
 
   marked-other : (k l : ℕ) → k < 32 → (k ≡ i → ⊥) → bit (getD later k 0) l ≡ standing (rest order count p) k l
@@ -187,28 +189,28 @@ module _ (book table starts order : List ℕ) (count m : ℕ) (w : Walkable book
 
     -- the row's word has the calls that the lot is eligible for
     row-has : (l : ℕ) → l < m → bit row l ≡ problemBy book table n m .admits i l
-    row-has l hl = rw (lt-ltb i n lot-in, lt-ltb l m hl)
+    row-has l hl = rw (row-is, lt-ltb i n lot-in, lt-ltb l m hl)
         (w .worded .has i j l lot-few call-few (omega (arith, w .few-calls)) (λ e. w .in-table p h (rw (← lot-is, ← call-is) e)))
 
-    keeps-are : Keeps m (set common j (sharedWith book starts common i j)) least′
+    keeps-are : Keeps m (set common j (bitAnd (getD common j 0) row)) after
         (backward (problemBy book table n m) costTop (rest order count p) .gaps)
     keeps-are = rw (← turn-gaps book table starts order count n m w few-lots each-once p h, ← lot-is, ← call-is)
-        (keeps-turn book table n m (w .few-calls) few-lots (w .tabled) i j lot-in (rw call-is (own .1)) _ common least least′
-        (so-far .long .0) row (turned .fits) row-has (turned .entered) kept)
+        (keeps-turn book table n m (w .few-calls) few-lots (w .tabled) i j lot-in (rw call-is (own .1)) _ common least after
+        (so-far .long .0) row fits row-has entered kept)
 
-    free-is : eqb (bitAnd marked (turned .fits)) marked ≡ freeAt (problemBy book table n m) order count p
+    free-is : eqb (bitAnd marked fits) marked ≡ freeAt (problemBy book table n m) order count p
     free-is = free-by-words book table starts order count n m w few-lots each-once p h marked (λ l. rw (← lot-is) (marked-is l)) marked-small
-        (turned .fits) (λ l hl e. rw (lot-is, call-is) at (fits-is book table n m (w .few-calls) few-lots (w .tabled) i j lot-in (rw call-is (own .1)) _
-        common least least′ (so-far .long .0) row (turned .fits) row-has (turned .entered) kept l hl (rw lot-is e)))
+        fits (λ l hl e. rw (lot-is, call-is) at (fits-is book table n m (w .few-calls) few-lots (w .tabled) i j lot-in (rw call-is (own .1)) _
+        common least after (so-far .long .0) row fits row-has entered kept l hl (rw lot-is e)))
 
     lowest-is : (b : Bool) → freeAt (problemBy book table n m) order count p ≡ b
         → LowestNotFree (problemBy book table n m) order count p (cond b lowest p)
     lowest-is true e = lowest-before next-is e (so-far .walked n few-lots each-once .1)
     lowest-is false e = lowest-here h e
 
-  kept-by : (b : Bool) → eqb (bitAnd marked (turned .fits)) marked ≡ b
-      → WalkedFrom book table order count m p (set common j (sharedWith book starts common i j)) (set later i marked) least′ (cond b lowest p)
-  kept-by b e = record {
+  pub walk-turn : (b : Bool) → eqb (bitAnd marked fits) marked ≡ b
+      → WalkedFrom book table order count m p (set common j (bitAnd (getD common j 0) row)) (set later i marked) after (cond b lowest p)
+  walk-turn b e = record {
     long = (length-set common j _ ∙ so-far .long .0, length-set later i marked ∙ so-far .long .1);
     small = λ k hk. by-cases (ℕ-discrete k i)
         (λ (q : k ≡ i). rw (q, getD-set-same later i marked 0 (omega (arith, lot-few, so-far .long .1))) marked-small)
@@ -216,15 +218,7 @@ module _ (book table starts order : List ℕ) (count m : ℕ) (w : Walkable book
     marked = λ k l hk. by-cases (ℕ-discrete k i)
         (λ (q : k ≡ i). rw (q, getD-set-same later i marked 0 (omega (arith, lot-few, so-far .long .1))) (marked-is l))
         (λ ne. rw (getD-set-other later i k marked 0 ne) (marked-other k l hk ne));
-    capped = turned .entered .capped;
+    capped = entered .capped;
     walked = λ n few-lots each-once.
         (keeps-are n few-lots each-once, lowest-is n few-lots each-once b (sym (free-is n few-lots each-once) ∙ e));
   }
-
-  -- it fails, or it is free
-  denied : (x b : Bool) → b ≡ not x → x ≡ not b
-  denied true b e = sym (ap not e)
-  denied false b e = sym (ap not e)
-
-  pub walk-turn : (b : Bool) → fails ≡ b → WalkedFrom book table order count m p common′ later′ least′ (cond (not b) lowest p)
-  walk-turn b e = rw (turned .shared, turned .marked) (kept-by (not b) (denied _ b (sym e ∙ turned .says)))

@@ -1,16 +1,14 @@
 -- What the functions of the walk ask of their arguments, and what their answers say.
 use mathlib.Core.Path.{_≡_}
-use mathlib.Core.Bool.{Bool, true, false, not, _&&_}
+use mathlib.Core.Bool.{Bool, true, false, _&&_}
 use mathlib.Core.List.{List}
-use Prim.Native.Nat.{ℕ, _+_, _*_, _^_, _≤_, _<_, min}
-use lib.Bits.{bitAnd, bitOr}
-use lib.Dec.{leb, eqb}
-use lib.ListN.{length, getD, set}
+use Prim.Native.Nat.{ℕ, _+_, _*_, _≤_, _<_, min}
+use lib.Dec.{leb}
+use lib.ListN.{length}
 use Rattle.transport.specs.Problem.{Problem}
 use Rattle.transport.specs.Order.{OrderOf}
 use Rattle.transport.specs.Finder.{free}
 use Rattle.transport.proofs.Finder.Standing.{standing}
-use Rattle.specification.specs.Bytes.{u32At}
 use Rattle.specification.specs.Book.{bit}
 use Rattle.book.specs.Table.{entry, problemBy, Tabled, Packed, Worded}
 use Rattle.walk.specs.Places.{orderPair, rest}
@@ -20,7 +18,7 @@ use Rattle.walk.specs.Gaps.{tableGap, Capped, Singles}
 pub record Started (table : List ℕ) (m i start : ℕ) : Type 0 where
   pub from : 0 < start → (l : ℕ) → l < m → entry table i l ≡ start + 4 * l
 
--- the eligible pair (i, j) among m calls, with a word of calls that lot i is eligible for
+-- the turn of the eligible pair (i, j) among m calls, with a word of calls that lot i is eligible for
 pub record CanEnter (book table singles : List ℕ) (m i j word : ℕ) (least : List ℕ) : Type 0 where
   pub tabled : Tabled book table
   pub packed : Packed table m
@@ -32,41 +30,13 @@ pub record CanEnter (book table singles : List ℕ) (m i j word : ℕ) (least : 
   pub singled : Singles singles
   pub capped : Capped least
 
--- the pair (i, j) is entered, with a word of calls that lot i is eligible for: the least gaps of call j over these calls are lowered to
+-- the turn of the pair (i, j), with a word of calls that lot i is eligible for: the least gaps of call j over these calls are lowered to
 -- the pair's, those of other calls stay, and the answer has the calls of the word over which the pair's gap is the least
 pub record PairEntered (book table : List ℕ) (m i j word : ℕ) (least : List ℕ) (r : ℕ) (after : List ℕ) : Type 0 where
   pub capped : Capped after
   pub lowers : (l : ℕ) → l < m → bit word l ≡ true → entry after j l ≡ min (entry least j l) (tableGap book table i j l)
   pub others : (a l : ℕ) → a < m → l < m → (a ≡ j → ⊥) → entry after a l ≡ entry least a l
   pub says : (l : ℕ) → l < m → bit r l ≡ (bit word l && leb (tableGap book table i j l) (entry least j l))
-
--- the turn of the eligible pair (i, j) among m calls
-pub record CanTurn (book table starts singles : List ℕ) (m i j : ℕ) (least : List ℕ) : Type 0 where
-  pub tabled : Tabled book table
-  pub packed : Packed table m
-  pub worded : Worded book table starts
-  pub few-calls : m ≤ 32
-  pub lot-in : i < 32
-  pub call-in : j < m
-  pub in-table : entry table i j ≡ 0 → ⊥
-  pub singled : Singles singles
-  pub capped : Capped least
-
--- the word of call j, cut to the calls that lot i is eligible for, and the word of lot i with call j
-abbrev pub sharedWith : List ℕ → List ℕ → List ℕ → ℕ → ℕ → ℕ
-sharedWith book starts common i j = bitAnd (getD common j 0) (u32At book (getD starts i 0))
-
-abbrev pub markedWith : List ℕ → ℕ → ℕ → ℕ
-markedWith later i j = bitOr (getD later i 0) (2 ^ j)
-
--- the turn of the pair (i, j): both words are so, it is entered, and it fails where a call of its lot's word is not among those that fit
-pub record PairTurned (book table starts : List ℕ) (m i j : ℕ) (common later least : List ℕ) (r : Bool)
-    (common′ later′ least′ : List ℕ) : Type 0 where
-  pub fits : ℕ
-  pub entered : PairEntered book table m i j (sharedWith book starts common i j) least fits least′
-  pub shared : common′ ≡ set common j (sharedWith book starts common i j)
-  pub marked : later′ ≡ set later i (markedWith later i j)
-  pub says : r ≡ not (eqb (bitAnd (markedWith later i j) fits) (markedWith later i j))
 
 -- an order of eligible pairs among m calls
 pub record Walkable (book table starts order : List ℕ) (count m : ℕ) : Type 0 where

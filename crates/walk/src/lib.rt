@@ -16,7 +16,7 @@ use specification::Call;
 use specification::Lot;
 ghost use Prim.Native.Nat.{_≤_, _<_};
 ghost use Rattle.book.specs.Table.{Packed};
-ghost use Rattle.walk.specs.Walk.{Started, CanEnter, PairEntered, CanTurn, PairTurned, Walkable, Walked};
+ghost use Rattle.walk.specs.Walk.{Started, CanEnter, Walkable, PairEntered, Walked};
 
 // The byte of lot i's first cost, where it has all m calls and so its costs stand side by side; and else 0.
 fn start_of(offsets: &[u16; 1024], m: usize, i: Lot) -> usize
@@ -35,8 +35,8 @@ fn start_of(offsets: &[u16; 1024], m: usize, i: Lot) -> usize
     first
 }
 
-// The pair (i, j) is entered: the least gaps of call j over the calls of its word, with which lot i is eligible, are lowered to those at lot i.
-// The calls of the word over which they are the least.
+// The turn of the pair (i, j): the least gaps of call j over the calls of its word, with which lot i is eligible, are lowered to those at
+// lot i. The calls of the word over which they are the least.
 fn enter(
     book: &[u8],
     offsets: &[u16; 1024],
@@ -59,36 +59,8 @@ fn enter(
     lower_set(book, offsets, own, word, singles, i, j, least)
 }
 
-// The turn of the pair (i, j): it is put into the words of its lot and its call, and entered. Whether it fails.
-fn turn(
-    book: &[u8],
-    offsets: &[u16; 1024],
-    starts: &[usize; 32],
-    singles: &[u32; 32],
-    m: usize,
-    i: Lot,
-    j: Call,
-    common: &mut [u32; 32],
-    later: &mut [u32; 32],
-    least: &mut [u32; 1024],
-) -> bool
-    requires { ⌜ CanTurn (now book) (now offsets) (now starts) (now singles) m (i .0) (j .0) (now least) ⌝ }
-    ensures { λ r.
-        ⌜ PairTurned (now (book .entry)) (now (offsets .entry)) (now (starts .entry)) m (i .0) (j .0) (now (common .entry))
-        (now (later .entry)) (now (least .entry)) r (now (common .exit)) (now (later .exit)) (now (least .exit)) ⌝ }
-{
-    let lot = i.0;
-    let call = j.0;
-    let shared = common[call] & book::inner::cost_at(book, starts[lot]);
-    let marked = later[lot] | singles[call];
-    common[call] = shared;
-    later[lot] = marked;
-    let fits = enter(book, offsets, singles, m, i, j, shared, least);
-    marked & fits != marked
-}
-
 // The lowest place of an order whose pair is not free against those at or after it, and the count where there is none: from the last pair
-// to the first, each has its turn.
+// to the first, each is put into the words, its gaps are entered and it is tested.
 pub fn walk(
     book: &[u8],
     offsets: &[u16; 1024],
@@ -111,18 +83,16 @@ pub fn walk(
     let mut p = count;
     while p > 0 {
         p -= 1;
-        let fails = turn(
-            book,
-            offsets,
-            starts,
-            &singles,
-            m,
-            lot_at(order, p),
-            call_at(order, p),
-            &mut common,
-            &mut later,
-            &mut least,
-        );
+        let i = lot_at(order, p);
+        let j = call_at(order, p);
+        let lot = i.0;
+        let call = j.0;
+        let shared = common[call] & book::inner::cost_at(book, starts[lot]);
+        let marked = later[lot] | singles[call];
+        common[call] = shared;
+        later[lot] = marked;
+        let fits = enter(book, offsets, &singles, m, i, j, shared, &mut least);
+        let fails = marked & fits != marked;
         if fails {
             lowest = p;
         }
