@@ -2,7 +2,7 @@
 -- kept of a table is kept of the turned one, and a column that lost a row is a row of the turned table that lost a column.
 use mathlib.Core.Path.{_≡_, sym, ap, ap₂, _∙_, subst, subst⁻¹}
 use mathlib.Core.Logic.{by-cases}
-use mathlib.Core.Bool.{Bool, true, false, not, _&&_, true≢false, and-true, and-false, and-comm, Bool·not-not}
+use mathlib.Core.Bool.{Bool, true, false, not, _&&_, and-true, and-false, and-comm, Bool·not-not}
 use mathlib.Core.List.{List}
 use Prim.Native.Nat.{ℕ, _+_, _<_}
 use native.Mathlib.Nat.{add-comm}
@@ -15,11 +15,11 @@ use lib.Seq.{getD-set-same, getD-set-other}
 use Rattle.specification.specs.Book.{bit}
 use Rattle.book.specs.Table.{entry}
 use Rattle.words.specs.Words.{Without}
-use Rattle.ranks.specs.Ranked.{fitsBy}
+use Rattle.ranks.specs.Ranked.{fitsBy, Tabled}
 use Rattle.corners.specs.Corners.{EndIn, Crossed}
-use Rattle.corners.specs.Halves.{has, Left, Marked, Lost, Tabled, lessPair}
+use Rattle.corners.specs.Halves.{has, Left, Marked, Lost, lessPair}
 use Rattle.transport.proofs.Laws.Tests.{and-left}
-use Rattle.corners.proofs.Crossing.{was-in}
+use Rattle.words.proofs.Changes.{not-lost, was-in}
 use Rattle.corners.proofs.Cornering.{end-in}
 
 module _ {n m : ℕ} {table turned : List ℕ} (t : Tabled n m table turned) where
@@ -89,10 +89,6 @@ module _ (words : List ℕ) {p q word : ℕ} (hp : p < length words) (w : Withou
   was-there : (a b : ℕ) → has (set words p word) a b ≡ true → has words a b ≡ true
   was-there a b e = and-left (has words a b) (not (eqb a p && eqb b q)) (sym (has-gone a b) ∙ e)
 
--- what is left to a word is not what it lost
-not-lost : {word q left : ℕ} → Without word q left → (x : ℕ) → bit left x ≡ true → x ≡ q → ⊥
-not-lost {word} {q} {left} w x e z = true≢false (sym e ∙ subst⁻¹ (λ (x : ℕ). bit left x ≡ false) z (w .out))
-
 -- (p, q) is taken
 module _ {n m : ℕ} {table turned : List ℕ} (t : Tabled n m table turned) {rows cols : List ℕ} (l : Left n m rows cols) {p q : ℕ} (hp : p < n)
     (b : has rows p q ≡ true) {left rest : ℕ} (w : Without (getD rows p 0) q left) (v : Without (getD cols q 0) p rest) where
@@ -120,19 +116,23 @@ module _ {n m : ℕ} {table turned : List ℕ} (t : Tabled n m table turned) {ro
   pub row-lost : {low : Bool} {marks mirror : List ℕ} → Marked low table n rows cols marks mirror
       → Lost low table (set cols q rest) p q left (getD marks p 0)
   row-lost {low} {marks} {mirror} h = record {
-    rows = n;
-    columns = m;
-    rows-few = t .rows-few;
-    columns-few = t .columns-few;
-    capped = t .capped;
-    monge = t .monge;
-    row-in = hp;
-    before = getD rows p 0;
-    was-in = b;
-    lost = w;
-    columns-in = λ x e. l .column-in p x hp e;
-    across-own = λ x e. ap (λ (u : ℕ). bit u p) (same x e) ∙ l .across p x hp (inside x e) ∙ was-in w x e;
-    across-in = λ x k e f. l .row-in k x (inside x e) (sym (ap (λ (u : ℕ). bit u k) (same x e)) ∙ f);
+    loses = record {
+      row = record {
+        rows = n;
+        columns = m;
+        rows-few = t .rows-few;
+        columns-few = t .columns-few;
+        capped = t .capped;
+        monge = t .monge;
+        row-in = hp;
+      };
+      before = getD rows p 0;
+      was-in = b;
+      lost = w;
+      columns-in = λ x e. l .column-in p x hp e;
+      across-own = λ x e. ap (λ (u : ℕ). bit u p) (same x e) ∙ l .across p x hp (inside x e) ∙ was-in w x e;
+      across-in = λ x k e f. l .row-in k x (inside x e) (sym (ap (λ (u : ℕ). bit u k) (same x e)) ∙ f);
+    };
     halves = record {
       each = λ x near far e a f. h .halves p hp .each x near far (was-in w x e) a (subst (λ (u : ℕ). EndIn (not low) u far) (same x e) f);
     };
@@ -163,7 +163,7 @@ module _ {n m : ℕ} {table turned : List ℕ} (t : Tabled n m table turned) {ro
       row : has (set rows p left) p c ≡ true → F p c
       row e =
           let x : bit left c ≡ true = sym (ap (λ (u : ℕ). bit u c) row-is) ∙ e in
-          of-row c (not-lost w c x) x (sym (w .others c (not-lost w c x)) ∙ x)
+          of-row c (not-lost w c x) x (was-in w c x)
 
       column : (a ≡ p → ⊥) → has (set rows p left) a q ≡ true → F a q
       column d e = of-column a ha d (sym (ap (λ (u : ℕ). bit u a) col-is) ∙ left-taken .across a q ha hq ∙ e)
@@ -172,19 +172,7 @@ module _ {n m : ℕ} {table turned : List ℕ} (t : Tabled n m table turned) {ro
 -- the marks of the row that are crossed into other rows change nothing here
 pub lost-crossed : {low : Bool} {table across : List ℕ} {p q left new : ℕ} {mirror mirror′ : List ℕ}
     → Lost low table across q p left (getD mirror q 0) → q < 32 → Crossed new p mirror mirror′ → Lost low table across q p left (getD mirror′ q 0)
-lost-crossed {low} {table} {across} {p} {q} {left} {new} {mirror} {mirror′} h hq c = record {
-  rows = h .rows;
-  columns = h .columns;
-  rows-few = h .rows-few;
-  columns-few = h .columns-few;
-  capped = h .capped;
-  monge = h .monge;
-  row-in = h .row-in;
-  before = h .before;
-  was-in = h .was-in;
-  lost = h .lost;
-  columns-in = h .columns-in;
-  across-own = h .across-own;
-  across-in = h .across-in;
-  halves = record { each = λ x near far e a f. c .each q hq .others x (not-lost (h .lost) x e) ∙ h .halves .each x near far e a f };
+lost-crossed {q = q} h hq c = record {
+  loses = h .loses;
+  halves = record { each = λ x near far e a f. c .each q hq .others x (not-lost (h .loses .lost) x e) ∙ h .halves .each x near far e a f };
 }

@@ -23,7 +23,7 @@ use Rattle.specification.specs.Book.{bit}
 use Rattle.book.specs.Table.{entry}
 use Rattle.words.specs.Words.{LowestIn, HighestIn}
 use Rattle.ranks.specs.Ranked.{fitsBy, byRanks, Ranking}
-use Rattle.corners.specs.Halves.{has, Standing, Tabled, Takes, Taken, canTake}
+use Rattle.corners.specs.Halves.{has, Standing, Takes, Taken, canTake}
 use Rattle.corners.specs.Frees.{Listed, Frees, Releases}
 use Rattle.words.proofs.Sets.{bit-none}
 use Rattle.words.proofs.Ends.{lowest-from, highest-from}
@@ -57,20 +57,10 @@ module _ {n m : ℕ} {lots lotRanks calls callRanks table turned : List ℕ} (k 
   abbrev columnOf : ℕ → ℕ
   columnOf j = getD callRanks j 0
 
-  tabled : Tabled n m table turned
-  tabled = record {
-    rows-few = k .lots-few;
-    columns-few = k .calls-few;
-    capped = k .capped;
-    turned-capped = k .turned-capped;
-    monge = k .monge;
-    turned-is = k .turned-is;
-  }
-
   pub listed : Listed n m lots calls
   listed = record {
-    lots-few = k .lots-few;
-    calls-few = k .calls-few;
+    lots-few = k .tabled .rows-few;
+    calls-few = k .tabled .columns-few;
     lotRank = rowOf;
     callRank = columnOf;
     lots-ranked = k .lots-ranked;
@@ -78,7 +68,7 @@ module _ {n m : ℕ} {lots lotRanks calls callRanks table turned : List ℕ} (k 
   }
 
   cap : (p q : ℕ) → entry table p q ≤ suc costTop
-  cap p q = k .capped (32 * p + q)
+  cap p q = k .tabled .capped (32 * p + q)
 
   ranked : Ranked P rowOf columnOf
   ranked = record {
@@ -87,7 +77,7 @@ module _ {n m : ℕ} {lots lotRanks calls callRanks table turned : List ℕ} (k 
     calls-apart = rank-apart (k .calls-ranked);
     monge = λ i a j b hi ha hj hb lt gt. omega (
       arith,
-      k .monge .fits-higher (rowOf i) (rowOf a) (columnOf j) (columnOf b) lt (k .lots-ranked .rank-below a ha) gt (k .calls-ranked .rank-below b hb),
+      k .tabled .monge .fits-higher (rowOf i) (rowOf a) (columnOf j) (columnOf b) lt (k .lots-ranked .rank-below a ha) gt (k .calls-ranked .rank-below b hb),
       cap (rowOf i) (columnOf j),
       cap (rowOf a) (columnOf b),
       cap (rowOf i) (columnOf b),
@@ -174,7 +164,7 @@ module _ {n m : ℕ} {lots lotRanks calls callRanks table turned : List ℕ} (k 
 
         pub takes : Takes n m table turned (rowOf lot) (columnOf call) rows cols low down high up
         takes = record {
-          tabled = tabled;
+          tabled = k .tabled;
           row-in = k .lots-ranked .rank-below lot lot-in;
           is-left = and-left (leftOf rows lot call) (has low (rowOf lot) (columnOf call) && has high (rowOf lot) (columnOf call))
               (sym (f .each (rowOf lot) (columnOf call) (k .lots-ranked .rank-below lot lot-in) (k .calls-ranked .rank-below call call-in))

@@ -16,7 +16,7 @@ use Rattle.ranks.specs.Ranked.{fitsBy, MongeBy}
 use Rattle.corners.specs.Corners.{EndIn, rowBeside, CanRenew, Renewed}
 use Rattle.words.proofs.Sets.{bit-none}
 use Rattle.words.proofs.Ends.{lowest-le, highest-ge}
-use Rattle.corners.proofs.Crossing.{was-in}
+use Rattle.words.proofs.Changes.{not-lost, was-in}
 
 -- the end of a word is in it, and there is one only
 pub end-in : (low : Bool) (word a : ℕ) → EndIn low word a → bit word a ≡ true
@@ -45,7 +45,7 @@ hinders-of table p q k l h = lt-leb _ _ h
 
 -- the row is one of 32
 pub row-lt : {low : Bool} {table across : List ℕ} {p left untested : ℕ} → CanRenew low table across p left untested → p < 32
-row-lt h = omega (arith, h .rows-few, h .row-in)
+row-lt h = omega (arith, h .row .rows-few, h .row .row-in)
 
 -- the end x of a word to be tested is hindered by the row beside, so each other in it is hindered by its far end
 hindered-further : (low : Bool) (table across : List ℕ) (p left untested near word x y far : ℕ) → CanRenew low table across p left untested
@@ -56,24 +56,24 @@ hindered-further true table across p left untested near word x y far h n among e
     let to-x = lowest-le left near x n (h .among-left x (among x (e .is-in))) in
     let in-y = h .left-in y (h .among-left y (among y b)) in
     let (far-in, beyond) = h .far-beyond y far (among y b) f in
-    let next : (p + 1) % 32 ≡ p + 1 = omega (arith, h .rows-few) in
+    let next : (p + 1) % 32 ≡ p + 1 = omega (arith, h .row .rows-few) in
     hinders-of table p y far near (omega (
       arith,
       hinders-says table p x (p + 1) near (subst (λ (k : ℕ). fitsBy table p x k near ≡ false) next hindered),
-      monge-le table (h .rows) (h .columns) p (p + 1) x y (h .monge) (omega arith) (omega arith) to-y in-y,
-      monge-le table (h .rows) (h .columns) (p + 1) far near y (h .monge) (omega arith) far-in (omega arith) in-y,
+      monge-le table (h .row .rows) (h .row .columns) p (p + 1) x y (h .row .monge) (omega arith) (omega arith) to-y in-y,
+      monge-le table (h .row .rows) (h .row .columns) (p + 1) far near y (h .row .monge) (omega arith) far-in (omega arith) in-y,
     ))
 hindered-further false table across p left untested near word x y far h n among e b f hindered =
     let to-y = highest-ge word x y e b in
     let to-x = highest-ge left near x n (h .among-left x (among x (e .is-in))) in
     let in-near = h .left-in near (n .is-in) in
     let (far-in, beyond) = h .far-beyond y far (among y b) f in
-    let next : (p + 31) % 32 ≡ p - 1 = omega (arith, h .rows-few, h .row-in) in
+    let next : (p + 31) % 32 ≡ p - 1 = omega (arith, h .row .rows-few, h .row .row-in) in
     hinders-of table p y far near (omega (
       arith,
       hinders-says table p x (p - 1) near (subst (λ (k : ℕ). fitsBy table p x k near ≡ false) next hindered),
-      monge-le table (h .rows) (h .columns) (p - 1) p y x (h .monge) (omega arith) (h .row-in) to-y (omega arith),
-      monge-le table (h .rows) (h .columns) far (p - 1) y near (h .monge) (omega arith) (omega (arith, h .row-in)) (omega arith) in-near,
+      monge-le table (h .row .rows) (h .row .columns) (p - 1) p y x (h .row .monge) (omega arith) (h .row .row-in) to-y (omega arith),
+      monge-le table (h .row .rows) (h .row .columns) far (p - 1) y near (h .row .monge) (omega arith) (omega (arith, h .row .row-in)) (omega arith) in-near,
     ))
 
 -- the columns of `word` are left to be tested; of the others that were to be, those whose half holds were found
@@ -102,7 +102,7 @@ module _ (low : Bool) (table across : List ℕ) (p near untested : ℕ) where
         (λ z. subst⁻¹ (λ (y : ℕ). bit found′ y ≡ (bit untested y && fitsBy table p y far′ near)) z
         (own far′ (subst (λ (y : ℕ). EndIn (not low) (getD across y 0) far′) z f′)))
         (λ d. r .others y d ∙ h .tested y far′ (sym (w .others y d) ∙ b) f′);
-    later = λ y b. r .others y (λ z. true≢false (sym (subst (λ (y : ℕ). bit word′ y ≡ true) z b) ∙ w .out)) ∙ h .later y (was-in w y b);
+    later = λ y b. r .others y (not-lost w y b) ∙ h .later y (was-in w y b);
     found-among = λ y b. by-cases (ℕ-discrete y x)
         (λ z. subst⁻¹ (λ (y : ℕ). bit untested y ≡ true) z (h .among x x-in))
         (λ d. h .found-among y (sym (r .others y d) ∙ b));

@@ -2,27 +2,21 @@
 -- numbers that stand at columns put into a word (`Naming`).
 use mathlib.Core.Path.{_≡_, refl, sym, ap, _∙_, subst, subst⁻¹}
 use mathlib.Core.Logic.{by-cases}
-use mathlib.Core.Bool.{Bool, true, false, cond, not, _&&_, _||_, and-true, and-not-self, or-false, true≢false}
+use mathlib.Core.Bool.{Bool, true, false, cond, not, _&&_, _||_, and-true, and-not-self, true≢false}
 use mathlib.Core.List.{List}
-use Prim.Native.Nat.{ℕ, _+_, _-_, _≤_, _<_}
+use Prim.Native.Nat.{ℕ, _+_, _-_, _<_}
 use native.Mathlib.Decide.{ℕ-discrete, decLt}
 use native.Mathlib.Omega.{arith}
-use borrow.Author.Count.{below-more}
 use borrow.Author.Tests.{lt-ltb, le-ltb}
 use lib.Dec.{ltb}
 use lib.ListN.{length, getD, set, length-set}
 use lib.Seq.{getD-set-same, getD-set-other}
 use Rattle.specification.specs.Book.{bit}
-use Rattle.words.specs.Words.{LowestIn, Without, IncludingIf}
+use Rattle.words.specs.Words.{LowestIn, Without, Begins, IncludingIf}
 use Rattle.ranks.specs.Ranked.{fitsBy}
 use Rattle.corners.specs.Corners.{Crossed, FirstRow, Named}
 use Rattle.words.proofs.Sets.{bit-none}
-
--- a number that is in a word without another was in it
-pub was-in : {word x word′ : ℕ} → Without word x word′ → (y : ℕ) → bit word′ y ≡ true → bit word y ≡ true
-was-in {word} {x} {word′} w y e = by-cases (ℕ-discrete y x)
-    (λ z. absurd (true≢false (sym (subst (λ (y : ℕ). bit word′ y ≡ true) z e) ∙ w .out)))
-    (λ d. sym (w .others y d) ∙ e)
+use Rattle.words.proofs.Changes.{was-in, begins-none, begins-more}
 
 -- row p is put into the words of the columns at which the test holds, and of no other
 pub record Put (test : ℕ → Bool) (p : ℕ) (before after : List ℕ) : Type 0 where
@@ -80,27 +74,24 @@ module _ (columns p : ℕ) (before : List ℕ) where
 
 -- of the first m columns, those at which the test holds are in the word, and have row p in their own
 pub record FirstColumns (test : ℕ → Bool) (m p word : ℕ) (before now : List ℕ) : Type 0 where
-  pub first : (x : ℕ) → x < m → bit word x ≡ test x
-  pub none : (x : ℕ) → m ≤ x → bit word x ≡ false
+  pub begins : Begins test m word
   pub put : Put (bit word) p before now
 
 module _ (test : ℕ → Bool) (p : ℕ) (before : List ℕ) where
   pub columns-none : FirstColumns test 0 p 0 before before
-  columns-none = record { first = λ x h. absurd (omega arith); none = λ x h. bit-none x; put = put-none (bit 0) p before (λ x h. bit-none x) }
+  columns-none = record { begins = begins-none test; put = put-none (bit 0) p before (λ x h. bit-none x) }
 
   pub columns-more : (q word v word′ : ℕ) (now : List ℕ) → q < length now → FirstColumns test q p word before now → IncludingIf (test q) word q word′
       → IncludingIf (test q) (getD now q 0) p v → FirstColumns test (q + 1) p word′ before (set now q v)
   columns-more q word v word′ now hq h r s = record {
-    first = below-more _ _ (λ x hx. r .others x (λ e. omega arith) ∙ h .first x hx)
-        (r .own ∙ ap (λ (b : Bool). test q || b) (h .none q (omega arith)) ∙ or-false (test q));
-    none = λ x hx. r .others x (λ e. omega arith) ∙ h .none x (omega arith);
+    begins = begins-more test q word word′ (h .begins) r;
     put = put-more (bit word) (bit word′) p q v (test q) before now hq (h .put) s (r .own) (r .others);
   }
 
   columns-all : (m word : ℕ) (now : List ℕ) → FirstColumns test m p word before now → (x : ℕ) → bit word x ≡ (ltb x m && test x)
   columns-all m word now h x = by-cases (decLt x m)
-      (λ l. h .first x l ∙ rw (lt-ltb x m l))
-      (λ o. h .none x (omega arith) ∙ rw (le-ltb x m (omega arith)))
+      (λ l. h .begins .first x l ∙ rw (lt-ltb x m l))
+      (λ o. h .begins .none x (omega arith) ∙ rw (le-ltb x m (omega arith)))
 
 -- all columns passed, with the row and the column that `edge` gives
 pub first-row-is : (low : Bool) (table : List ℕ) (n m p far near word : ℕ) (before now : List ℕ) → far ≡ cond low (n - 1) 0

@@ -9,7 +9,7 @@ use native.Mathlib.Omega.{arith}
 use borrow.Author.Count.{below-more}
 use borrow.Author.Tests.{lt-ltb, le-ltb, ltb-true, eq-eqb}
 use lib.Dec.{ltb}
-use lib.ListN.{length, getD, set, replicate, length-set, length-replicate, getD-replicate, List·getD-eq-default}
+use lib.ListN.{length, getD, set, replicate, length-set, length-replicate, getD-replicate}
 use lib.Seq.{getD-set-same, getD-set-other}
 use Rattle.specification.specs.Book.{bit}
 use Rattle.words.specs.Words.{Below}
@@ -20,12 +20,6 @@ use Rattle.corners.specs.Frees.{Frees, LotNamed, FirstFrees}
 use Rattle.transport.proofs.Laws.Tests.{and-left}
 use Rattle.words.proofs.Sets.{bit-none, bit-all}
 use Rattle.corners.proofs.Releasing.{frees-row}
-
--- an array of zeros
-pub zeros-at : (x : ℕ) → getD {A = ℕ} (replicate 32 0) x 0 ≡ 0
-zeros-at x = by-cases (decLt x 32)
-    (λ h. getD-replicate 32 x 0 0 h)
-    (λ o. List·getD-eq-default (replicate 32 0) 0 {n = x} (omega (arith, length-replicate {A = ℕ} 32 0)))
 
 zero-word : (words : List ℕ) → ((x : ℕ) → getD words x 0 ≡ 0) → (p q : ℕ) → has words p q ≡ false
 zero-word words z p q = ap (λ (w : ℕ). bit w q) (z p) ∙ bit-none q

@@ -11,13 +11,14 @@ use lib.Dec.{eqb}
 use lib.ListN.{length, getD, set}
 use Rattle.specification.specs.Book.{bit}
 use Rattle.words.specs.Words.{Without}
-use Rattle.corners.specs.Halves.{has, Left, Marked, Standing, Lost, RowFreed, Tabled, Takes, Taken}
+use Rattle.ranks.specs.Ranked.{Tabled}
+use Rattle.corners.specs.Halves.{has, Left, Marked, Standing, Lost, RowFreed, Takes, Taken}
 use Rattle.corners.specs.Halves.{canTake, lessPair, plusRow, plusColumn}
 use Rattle.transport.proofs.Laws.Tests.{false-of, and-left, and-right}
-use Rattle.corners.proofs.Crossing.{was-in}
+use Rattle.words.proofs.Changes.{was-in}
 use Rattle.corners.proofs.Across.{tabled-turned, left-turned, marked-turned, has-gone, left-taken, row-lost, lost-crossed, row-is}
 use Rattle.corners.proofs.Across.{col-is, split}
-use Rattle.corners.proofs.Gone.{marks-other, marks-row, mirror-row, marked-taken}
+use Rattle.corners.proofs.Gone.{rows-stay, columns-stay, marked-taken}
 
 module _ {n m : ℕ} {table turned : List ℕ} {p q : ℕ} {rows cols low down high up : List ℕ}
     (k : Takes n m table turned p q rows cols low down high up) {left rest : ℕ}
@@ -43,12 +44,14 @@ module _ {n m : ℕ} {table turned : List ℕ} {p q : ℕ} {rows cols low down h
         → Lost half turned (set rows p left) q p rest (getD marks q 0)
     column-lost = row-lost (tabled-turned t) (left-turned t l) column-in (l .across p q (k .row-in) column-in ∙ k .is-left) v w
 
+    hq : q < 32
+    hq = omega (arith, column-in, t .columns-few)
+
     pub column-loses : Lost true turned (set rows p left) q p rest (getD up₁ q 0) × Lost false turned (set rows p left) q p rest (getD down₁ q 0)
-    column-loses =
-        let hq : q < 32 = omega (arith, column-in, t .columns-few) in (
-          lost-crossed (column-lost (marked-turned t l (k .standing .high-marked))) hq (r .high-renewed .crossed),
-          lost-crossed (column-lost (marked-turned t l (k .standing .low-marked))) hq (r .low-renewed .crossed),
-        )
+    column-loses = (
+      lost-crossed (column-lost (marked-turned t l (k .standing .high-marked))) hq (r .high-renewed .crossed),
+      lost-crossed (column-lost (marked-turned t l (k .standing .low-marked))) hq (r .low-renewed .crossed),
+    )
 
     module _ {low₂ down₂ high₂ up₂ : List ℕ} {freed : ℕ}
         (s : RowFreed turned (set rows p left) q rest freed up₁ up₂ high₁ high₂ down₁ down₂ low₁ low₂) where
@@ -65,28 +68,12 @@ module _ {n m : ℕ} {table turned : List ℕ} {p q : ℕ} {rows cols low down h
       abbrev then : ℕ → ℕ → Bool
       then = plusColumn (plusRow (lessPair can p q) p columns) q freed
 
-      -- marks of the pairs that are not of column q, and of those that are not of row p
-      low-other : (a c : ℕ) → a < n → (c ≡ q → ⊥) → has low₂ a c ≡ has low₁ a c
-      low-other = marks-other t l (k .row-in) (k .is-left) w v (k .standing .low-marked) (r .low-renewed) (s .high-renewed)
-
-      high-other : (a c : ℕ) → a < n → (c ≡ q → ⊥) → has high₂ a c ≡ has high₁ a c
-      high-other = marks-other t l (k .row-in) (k .is-left) w v (k .standing .high-marked) (r .high-renewed) (s .low-renewed)
-
-      low-row : (a c : ℕ) → (a ≡ p → ⊥) → has low₁ a c ≡ has low a c
-      low-row = marks-row t l (k .row-in) (k .is-left) w v (k .standing .low-marked) (r .low-renewed) (s .high-renewed)
-
-      high-row : (a c : ℕ) → (a ≡ p → ⊥) → has high₁ a c ≡ has high a c
-      high-row = marks-row t l (k .row-in) (k .is-left) w v (k .standing .high-marked) (r .high-renewed) (s .low-renewed)
-
-      down-row : (a c : ℕ) → c < m → (a ≡ p → ⊥) → has down₁ c a ≡ has down c a
-      down-row = mirror-row t l (k .row-in) (k .is-left) w v (k .standing .low-marked) (r .low-renewed) (s .high-renewed)
-
-      up-row : (a c : ℕ) → c < m → (a ≡ p → ⊥) → has up₁ c a ≡ has up c a
-      up-row = mirror-row t l (k .row-in) (k .is-left) w v (k .standing .high-marked) (r .high-renewed) (s .low-renewed)
+      few : {a : ℕ} → a < n → a < 32
+      few h = omega (arith, t .rows-few)
 
       left-still : (a c : ℕ) → a < n → has (set rows p left) a c ≡ true → (has low₂ a c && has high₂ a c) ≡ then a c
       left-still = split t l (k .row-in) (k .is-left) w v (λ a c. (has low₂ a c && has high₂ a c) ≡ then a c)
-          (λ c f x e. ap₂ _&&_ (low-other p c (k .row-in) f) (high-other p c (k .row-in) f) ∙ r .freed c x
+          (λ c f x e. ap₂ _&&_ (columns-stay (s .high-renewed) c p f (few (k .row-in))) (columns-stay (s .low-renewed) c p f (few (k .row-in))) ∙ r .freed c x
           ∙ sym (rw (ne-eqb c q f, eq-eqb p p refl, e) (ap (λ (z : Bool). bit columns c || z) (and-true (has low p c && has high p c)))))
           (λ a ha d x e.
           let there : has (set rows p left) a q ≡ true = sym (standing-taken .left .across a q ha column-in)
@@ -94,10 +81,10 @@ module _ {n m : ℕ} {table turned : List ℕ} {p q : ℕ} {rows cols low down h
           and-comm (has low₂ a q) (has high₂ a q)
           ∙ ap₂ _&&_ (sym (standing-taken .high-marked .across a q ha there)) (sym (standing-taken .low-marked .across a q ha there))
           ∙ s .freed a x
-          ∙ ap (λ (z : Bool). bit freed a || z) (ap₂ _&&_ (up-row a q column-in d ∙ k .standing .high-marked .across a q ha e)
-          (down-row a q column-in d ∙ k .standing .low-marked .across a q ha e) ∙ and-comm (has high a q) (has low a q))
+          ∙ ap (λ (z : Bool). bit freed a || z) (ap₂ _&&_ (columns-stay (r .high-renewed) a q d hq ∙ k .standing .high-marked .across a q ha e)
+          (columns-stay (r .low-renewed) a q d hq ∙ k .standing .low-marked .across a q ha e) ∙ and-comm (has high a q) (has low a q))
           ∙ sym (rw (eq-eqb q q refl, ne-eqb a p d, e) (ap (λ (z : Bool). bit freed a || z) (and-true (has low a q && has high a q)))))
-          (λ a c ha d f e. ap₂ _&&_ (low-other a c ha f ∙ low-row a c d) (high-other a c ha f ∙ high-row a c d)
+          (λ a c ha d f e. ap₂ _&&_ (columns-stay (s .high-renewed) c a f (few ha) ∙ rows-stay (r .low-renewed) a c d) (columns-stay (s .low-renewed) c a f (few ha) ∙ rows-stay (r .high-renewed) a c d)
           ∙ sym (rw (ne-eqb c q f, ne-eqb a p d, e) (and-true (has low a c && has high a c))))
 
       -- what is not left cannot be taken

@@ -9,11 +9,20 @@ use lib.ListN.{getD, set}
 use lib.Seq.{getD-set-other}
 use Rattle.specification.specs.Book.{bit}
 use Rattle.words.specs.Words.{Without}
-use Rattle.ranks.specs.Ranked.{fitsBy}
+use Rattle.ranks.specs.Ranked.{fitsBy, Tabled}
 use Rattle.corners.specs.Corners.{EndIn}
-use Rattle.corners.specs.Halves.{has, Left, Marked, RowRenewed, Tabled}
+use Rattle.corners.specs.Halves.{has, Left, Marked, RowRenewed}
 use Rattle.corners.proofs.Cornering.{end-in}
 use Rattle.corners.proofs.Across.{fits-turned, left-taken, row-is, col-is, split}
+
+-- a row with new marks: in other rows they are as they were, by rows and by columns
+module _ {low : Bool} {table across : List ℕ} {p left new : ℕ} {marks marks′ mirror mirror′ : List ℕ}
+    (r : RowRenewed low table across p left new marks marks′ mirror mirror′) (a c : ℕ) (d : a ≡ p → ⊥) where
+  pub rows-stay : has marks′ a c ≡ has marks a c
+  rows-stay = ap (λ (u : ℕ). bit u c) (r .others a d)
+
+  pub columns-stay : c < 32 → has mirror′ c a ≡ has mirror c a
+  columns-stay h = r .crossed .each c h .others a d
 
 module _ {low : Bool} {n m : ℕ} {table turned : List ℕ} (t : Tabled n m table turned) {rows cols : List ℕ} (l : Left n m rows cols) {p q : ℕ}
     (hp : p < n) (b : has rows p q ≡ true) {left rest : ℕ} (w : Without (getD rows p 0) q left) (v : Without (getD cols q 0) p rest)
@@ -32,27 +41,17 @@ module _ {low : Bool} {n m : ℕ} {table turned : List ℕ} (t : Tabled n m tabl
   hq : q < m
   hq = l .column-in p q hp b
 
-  -- marks that stay
-  pub marks-other : (a c : ℕ) → a < n → (c ≡ q → ⊥) → has marks₂ a c ≡ has marks₁ a c
-  marks-other a c ha f = s .crossed .each a (omega (arith, t .rows-few)) .others c f
-
-  pub marks-row : (a c : ℕ) → (a ≡ p → ⊥) → has marks₁ a c ≡ has marks a c
-  marks-row a c d = ap (λ (u : ℕ). bit u c) (r .others a d)
-
-  mirror-other : (a c : ℕ) → (c ≡ q → ⊥) → has mirror₂ c a ≡ has mirror₁ c a
-  mirror-other a c f = ap (λ (u : ℕ). bit u a) (s .others c f)
-
-  pub mirror-row : (a c : ℕ) → c < m → (a ≡ p → ⊥) → has mirror₁ c a ≡ has mirror c a
-  mirror-row a c hc d = r .crossed .each c (omega (arith, t .columns-few)) .others a d
+  few : {a : ℕ} → a < n → a < 32
+  few h = omega (arith, t .rows-few)
 
   across-then : (a c : ℕ) → a < n → has rows′ a c ≡ true → has mirror₂ c a ≡ has marks₂ a c
   across-then = split t l hp b w v (λ a c. has mirror₂ c a ≡ has marks₂ a c)
-      (λ c f x e. mirror-other p c f ∙ r .crossed .each c (omega (arith, l .column-in p c hp e, t .columns-few)) .own
-      ∙ ap (λ (k : Bool). bit new c || k) (h .across p c hp e) ∙ sym (r .gained c x) ∙ sym (marks-other p c hp f))
-      (λ a ha d x e. s .gained a x ∙ ap (λ (k : Bool). bit newAcross a || k) (mirror-row a q hq d ∙ h .across a q ha e ∙ sym (marks-row a q d))
-      ∙ sym (s .crossed .each a (omega (arith, t .rows-few)) .own))
-      (λ a c ha d f e. mirror-other a c f ∙ mirror-row a c (l .column-in a c ha e) d ∙ h .across a c ha e
-      ∙ sym (marks-other a c ha f ∙ marks-row a c d))
+      (λ c f x e. rows-stay s c p f ∙ r .crossed .each c (omega (arith, l .column-in p c hp e, t .columns-few)) .own
+      ∙ ap (λ (k : Bool). bit new c || k) (h .across p c hp e) ∙ sym (r .gained c x) ∙ sym (columns-stay s c p f (few hp)))
+      (λ a ha d x e. s .gained a x ∙ ap (λ (k : Bool). bit newAcross a || k) (columns-stay r a q d (omega (arith, hq, t .columns-few)) ∙ h .across a q ha e ∙ sym (rows-stay r a q d))
+      ∙ sym (s .crossed .each a (few ha) .own))
+      (λ a c ha d f e. rows-stay s c a f ∙ columns-stay r a c d (omega (arith, l .column-in a c ha e, t .columns-few)) ∙ h .across a c ha e
+      ∙ sym (columns-stay s c a f (few ha) ∙ rows-stay r a c d))
 
   -- the half of (a, c) is marked
   abbrev Half : ℕ → ℕ → Type 0
@@ -60,7 +59,7 @@ module _ {low : Bool} {n m : ℕ} {table turned : List ℕ} (t : Tabled n m tabl
 
   half-then : (a c : ℕ) → a < n → has rows′ a c ≡ true → Half a c
   half-then = split t l hp b w v Half
-      (λ c f x e near far y z. marks-other p c hp f
+      (λ c f x e near far y z. columns-stay s c p f (few hp)
       ∙ r .halves .each c near far x (subst (λ (u : ℕ). EndIn low u near) (row-is t l hp b w v) y) z)
       (λ a ha d x e near far y z.
       let there : has rows′ a q ≡ true = sym (l′ .across a q ha hq) ∙ ap (λ (u : ℕ). bit u a) (col-is t l hp b w v) ∙ x in
@@ -69,7 +68,7 @@ module _ {low : Bool} {n m : ℕ} {table turned : List ℕ} (t : Tabled n m tabl
       (subst (λ (k : Bool). EndIn k (getD rows′ a 0) near) (sym (Bool·not-not low)) y)
       ∙ fits-turned t a q far near ha hq (l′ .row-in far q hq (end-in (not low) (getD cols′ q 0) far z))
       (l′ .column-in a near ha (end-in low (getD rows′ a 0) near y)))
-      (λ a c ha d f e near far y z. marks-other a c ha f ∙ marks-row a c d
+      (λ a c ha d f e near far y z. columns-stay s c a f (few ha) ∙ rows-stay r a c d
       ∙ h .halves a ha .each c near far e (subst (λ (u : ℕ). EndIn low u near) (getD-set-other rows p a left 0 d) y)
       (subst (λ (u : ℕ). EndIn (not low) u far) (getD-set-other cols q c rest 0 f) z))
 

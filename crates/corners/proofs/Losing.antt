@@ -15,11 +15,11 @@ use Rattle.book.specs.Table.{entry}
 use Rattle.words.specs.Words.{Without}
 use Rattle.ranks.specs.Ranked.{fitsBy, MongeBy}
 use Rattle.corners.specs.Corners.{EndIn, Beyond, CanRenew, Renewed, Crossed}
-use Rattle.corners.specs.Halves.{has, Halves, Lost, LostNear, RowRenewed, RowFreed}
+use Rattle.corners.specs.Halves.{has, Halves, Loses, Lost, LostNear, RowRenewed, RowFreed}
 use Rattle.transport.proofs.Laws.Tests.{and-left, and-right}
 use Rattle.words.proofs.Sets.{bit-none}
 use Rattle.words.proofs.Ends.{word-positive, lowest-le, highest-ge}
-use Rattle.corners.proofs.Crossing.{was-in}
+use Rattle.words.proofs.Changes.{was-in}
 use Rattle.corners.proofs.Cornering.{end-in, end-same, monge-le}
 
 -- the near end of a word that lost a number: the same, unless that was it
@@ -90,7 +90,7 @@ row-kept {low} {table} {across} {p} {left} marks mirror h = record {
 pub halves-stay : {low : Bool} {table across : List ℕ} {p q left marks : ℕ} → Lost low table across p q left marks
     → ((near : ℕ) → EndIn low left near → Beyond low q near → ⊥) → Halves low table across p left left marks
 halves-stay {low} {table} {across} {p} {q} {left} {marks} h d = record {
-  each = λ x near far l n f. h .halves .each x near far l (near-stays low near (h .lost) n (d near n)) f;
+  each = λ x near far l n f. h .halves .each x near far l (near-stays low near (h .loses .lost) n (d near n)) f;
 }
 
 -- else those columns are tested that are not marked
@@ -99,8 +99,8 @@ module _ {low : Bool} {table across : List ℕ} {p left marks : ℕ} (g : LostNe
   abbrev q : ℕ
   q = g .column
 
-  abbrev h : Lost low table across p q left marks
-  h = g .lost
+  abbrev h : Loses table across p q left
+  h = g .lost .loses
 
   was-end : EndIn low (h .before) q
   was-end = near-lost low (g .near) (h .lost) (h .was-in) (g .near-is) (g .was-near)
@@ -109,18 +109,12 @@ module _ {low : Bool} {table across : List ℕ} {p left marks : ℕ} (g : LostNe
   untested-left x t = and-left (bit left x) (not (bit marks x)) (sym (u x) ∙ t)
 
   not-own : (x : ℕ) → bit untested x ≡ true → EndIn (not low) (getD across x 0) p → ⊥
-  not-own x t f = true≢false (sym (sym (ap not (h .halves .each x q p (untested-left x t) was-end f ∙ fits-own table p x q))
+  not-own x t f = true≢false (sym (sym (ap not (g .lost .halves .each x q p (untested-left x t) was-end f ∙ fits-own table p x q))
       ∙ and-right (bit left x) (not (bit marks x)) (sym (u x) ∙ t)))
 
   pub can-renew : CanRenew low table across p left untested
   can-renew = record {
-    rows = h .rows;
-    columns = h .columns;
-    rows-few = h .rows-few;
-    columns-few = h .columns-few;
-    capped = h .capped;
-    monge = h .monge;
-    row-in = h .row-in;
+    row = h .row;
     some-left = word-positive left (g .near) (end-in low left (g .near) (g .near-is));
     left-in = λ x t. h .columns-in x (was-in (h .lost) x t);
     among-left = untested-left;
@@ -142,14 +136,14 @@ module _ {low : Bool} {table across : List ℕ} {p left marks : ℕ} (g : LostNe
       → Halves low table across p left left word
   halves-renewed new word r t = record {
     each = λ x near far l n f.
-        let hx : x < h .columns = h .columns-in x (was-in (h .lost) x l) in
+        let hx : x < h .row .columns = h .columns-in x (was-in (h .lost) x l) in
         let nearer : Beyond low q near = subst (Beyond low q) (end-same low left (g .near) near (g .near-is) n) (g .was-near) in
         let held : bit marks x ≡ true → fitsBy table p x far near ≡ true = λ k.
-        fits-nearer low table (h .rows) (h .columns) (getD across x 0) p x far q near (h .monge) (h .row-in)
+        fits-nearer low table (h .row .rows) (h .row .columns) (getD across x 0) p x far q near (h .row .monge) (h .row .row-in)
         (h .across-in x far l (end-in (not low) (getD across x 0) far f)) (h .columns-in q (h .was-in))
         (h .columns-in near (was-in (h .lost) near (end-in low left near n))) (h .across-own x l) f nearer
-        (sym (h .halves .each x q far l was-end f) ∙ k) in
-        t x ∙ ap (λ (c : Bool). c || bit marks x) (r .each x near far (omega (arith, h .columns-few)) n f
+        (sym (g .lost .halves .each x q far l was-end f) ∙ k) in
+        t x ∙ ap (λ (c : Bool). c || bit marks x) (r .each x near far (omega (arith, h .row .columns-few)) n f
         ∙ ap (λ (c : Bool). c && fitsBy table p x far near) (u x ∙ ap (λ (c : Bool). c && not (bit marks x)) l))
         ∙ mark-is (fitsBy table p x far near) (bit marks x) held;
   }

@@ -20,7 +20,7 @@ use Rattle.corners.specs.Frees.{SetTo, Listed, Frees, LotNamed, Spread, 
 use Rattle.transport.proofs.Laws.Tests.{false-of}
 use Rattle.words.proofs.Ends.{word-positive}
 use Rattle.words.proofs.Sets.{bit-none}
-use Rattle.corners.proofs.Crossing.{was-in}
+use Rattle.words.proofs.Changes.{was-in}
 
 -- the lots at the rows of `word` are left; the others have the call
 pub record Spreading (lots : List ℕ) (rows word call : ℕ) (before now : List ℕ) : Type 0 where

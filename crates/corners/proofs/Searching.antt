@@ -51,7 +51,7 @@ module _ {n m : ℕ} {lots lotRanks calls callRanks table turned : List ℕ} (k 
   P = byRanks table lotRanks callRanks n m
 
   pub total-few : n * m ≤ 1024
-  total-few = omega (arith, mul-le-mul (k .lots-few) (k .calls-few))
+  total-few = omega (arith, mul-le-mul (k .tabled .rows-few) (k .tabled .columns-few))
 
   pub first-frees : {low down : List ℕ} → FirstMarks true table n m n low down → FirstFrees n m lots calls low
   first-frees h = record {
@@ -61,15 +61,15 @@ module _ {n m : ℕ} {lots lotRanks calls callRanks table turned : List ℕ} (k 
 
   module _ {row col : ℕ} (r : Below 4294967295 m row) (c : Below 4294967295 n col) where
     all-left : (p q : ℕ) → p < n → q < m → has (replicate 32 row) p q ≡ true
-    all-left p q hp hq = has-row (k .lots-some) (k .calls-some) (k .lots-few) (k .calls-few) row col (full-is m row (k .calls-few) r)
-        (full-is n col (k .lots-few) c) p q hp ∙ lt-ltb q m hq
+    all-left p q hp hq = has-row (k .lots-some) (k .calls-some) (k .tabled .rows-few) (k .tabled .columns-few) row col (full-is m row (k .tabled .columns-few) r)
+        (full-is n col (k .tabled .rows-few) c) p q hp ∙ lt-ltb q m hq
 
     pub searching-first : {low down high up free : List ℕ} {some : ℕ} → FirstMarks true table n m n low down → FirstMarks false table n m n high up
         → Frees n m lots calls (λ p q. ltb p n && (has low p q && has high p q)) free some
         → Searching n m lots calls table (replicate 32 row) (replicate 32 col) low down high up free some
     searching-first {low} {down} {high} {up} a b f = record {
-      standing = standing-first (k .lots-some) (k .calls-some) (k .lots-few) (k .calls-few) row col (full-is m row (k .calls-few) r)
-          (full-is n col (k .lots-few) c) a b;
+      standing = standing-first (k .lots-some) (k .calls-some) (k .tabled .rows-few) (k .tabled .columns-few) row col (full-is m row (k .tabled .columns-few) r)
+          (full-is n col (k .tabled .rows-few) c) a b;
       frees = frees-same f (λ p q hp hq. ap (λ (x : Bool). x && (has low p q && has high p q)) (lt-ltb p n hp ∙ sym (all-left p q hp hq)));
     }
 

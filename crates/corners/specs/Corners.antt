@@ -26,9 +26,8 @@ abbrev pub rowBeside : Bool → ℕ → ℕ
 rowBeside true p = (p + 1) % 32
 rowBeside false p = (p + 31) % 32
 
--- what is asked of the columns to be tested in row p, to which `left` remains: of some rows and columns, which are Monge, each is left to
--- the row, and its far end lies beyond the row
-pub record CanRenew (low : Bool) (table across : List ℕ) (p left untested : ℕ) : Type 0 where
+-- row p is one of some rows of a table, which with some columns are Monge
+pub record RowOf (table : List ℕ) (p : ℕ) : Type 0 where
   pub rows : ℕ
   pub columns : ℕ
   pub rows-few : rows ≤ 32
@@ -36,11 +35,15 @@ pub record CanRenew (low : Bool) (table across : List ℕ) (p left untested : �
   pub capped : Capped table
   pub monge : MongeBy table rows columns
   pub row-in : p < rows
+
+-- what is asked of the columns to be tested in row p, to which `left` remains: each is left to the row, and its far end lies beyond the row
+pub record CanRenew (low : Bool) (table across : List ℕ) (p left untested : ℕ) : Type 0 where
+  pub row : RowOf table p
   pub some-left : 0 < left
-  pub left-in : (x : ℕ) → bit left x ≡ true → x < columns
+  pub left-in : (x : ℕ) → bit left x ≡ true → x < row .columns
   pub among-left : (x : ℕ) → bit untested x ≡ true → bit left x ≡ true
   pub some-across : (x : ℕ) → bit untested x ≡ true → 0 < getD across x 0
-  pub far-beyond : (x k : ℕ) → bit untested x ≡ true → EndIn (not low) (getD across x 0) k → (k < rows) × Beyond low p k
+  pub far-beyond : (x k : ℕ) → bit untested x ≡ true → EndIn (not low) (getD across x 0) k → (k < row .rows) × Beyond low p k
 
 -- of the columns that were to be tested, those whose half of the test holds
 pub record Renewed (low : Bool) (table across : List ℕ) (p left untested r : ℕ) : Type 0 where

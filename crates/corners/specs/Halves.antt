@@ -7,11 +7,9 @@ use Prim.Native.Nat.{ℕ, _≤_, _<_}
 use lib.Dec.{eqb, ltb}
 use lib.ListN.{length, getD}
 use Rattle.specification.specs.Book.{bit}
-use Rattle.book.specs.Table.{entry}
-use Rattle.slacks.specs.Slacks.{Capped}
 use Rattle.words.specs.Words.{Without}
-use Rattle.ranks.specs.Ranked.{fitsBy, MongeBy}
-use Rattle.corners.specs.Corners.{EndIn, Beyond, Crossed, firstHalf}
+use Rattle.ranks.specs.Ranked.{fitsBy, Tabled}
+use Rattle.corners.specs.Corners.{EndIn, Beyond, RowOf, Crossed, firstHalf}
 
 -- q is in word p
 abbrev pub has : List ℕ → ℕ → ℕ → Bool
@@ -51,22 +49,20 @@ pub record FirstMarks (low : Bool) (table : List ℕ) (n m count : ℕ) (marks m
   pub long : length marks ≡ 32
   pub across-long : length mirror ≡ 32
 
--- row p has lost column q, and its marks are still those of before
-pub record Lost (low : Bool) (table across : List ℕ) (p q left marks : ℕ) : Type 0 where
-  pub rows : ℕ
-  pub columns : ℕ
-  pub rows-few : rows ≤ 32
-  pub columns-few : columns ≤ 32
-  pub capped : Capped table
-  pub monge : MongeBy table rows columns
-  pub row-in : p < rows
+-- row p has lost column q
+pub record Loses (table across : List ℕ) (p q left : ℕ) : Type 0 where
+  pub row : RowOf table p
   pub before : ℕ
   pub was-in : bit before q ≡ true
   pub lost : Without before q left
-  pub columns-in : (x : ℕ) → bit before x ≡ true → x < columns
+  pub columns-in : (x : ℕ) → bit before x ≡ true → x < row .columns
   pub across-own : (x : ℕ) → bit left x ≡ true → bit (getD across x 0) p ≡ true
-  pub across-in : (x k : ℕ) → bit left x ≡ true → bit (getD across x 0) k ≡ true → k < rows
-  pub halves : Halves low table across p before left marks
+  pub across-in : (x k : ℕ) → bit left x ≡ true → bit (getD across x 0) k ≡ true → k < row .rows
+
+-- and its marks are still those of before
+pub record Lost (low : Bool) (table across : List ℕ) (p q left marks : ℕ) : Type 0 where
+  pub loses : Loses table across p q left
+  pub halves : Halves low table across p (loses .before) left marks
 
 -- that column came before what is left: it was the near end
 pub record LostNear (low : Bool) (table across : List ℕ) (p left marks : ℕ) : Type 0 where
@@ -116,15 +112,6 @@ pub record Taken (n m p q columns rows : ℕ) (left low high left′ low′ high
       → canTake left′ low′ high′ a b ≡ plusColumn (plusRow (lessPair (canTake left low high) p q) p columns) q rows a b
   pub columns-in : (x : ℕ) → bit columns x ≡ true → x < m
   pub rows-in : (x : ℕ) → bit rows x ≡ true → x < n
-
--- the table and the turned one, of n rows and m columns, are Monge and say the same
-pub record Tabled (n m : ℕ) (table turned : List ℕ) : Type 0 where
-  pub rows-few : n ≤ 32
-  pub columns-few : m ≤ 32
-  pub capped : Capped table
-  pub turned-capped : Capped turned
-  pub monge : MongeBy table n m
-  pub turned-is : (p q : ℕ) → p < n → q < m → entry turned q p ≡ entry table p q
 
 -- (p, q) is left, and all is kept
 pub record Takes (n m : ℕ) (table turned : List ℕ) (p q : ℕ) (rows cols low down high up : List ℕ) : Type 0 where

@@ -1,13 +1,16 @@
--- The entry point's laws: document 01's reply and buffer in each of the four cases.
+-- The entry point's laws: document 01's reply and buffer in each of the four cases; and how many pairs are searched.
 use mathlib.Core.Path.{_≡_, refl, sym, _∙_, ap}
+use mathlib.Core.Bool.{Bool, true, false}
 use mathlib.Core.List.{List, [], _++_}
 use mathlib.Core.Option.{Option, some, none}
-use Prim.Native.Nat.{ℕ, _+_, _*_, _≤_, _<_}
+use Prim.Native.Nat.{ℕ, suc, _+_, _*_, _≤_, _<_}
+use native.Mathlib.Nat.{mul-le-mul}
 use native.Mathlib.Omega.{arith}
 use borrow.Author.Tests.{lt-ltb, le-ltb}
 use lib.ListN.{length, drop}
 use Rattle.transport.specs.Greedy.{Pair}
-use Rattle.transport.specs.Finder.{find}
+use Rattle.transport.specs.Finder.{size, find}
+use Rattle.transport.proofs.Laws.Sets.{count-le}
 use Rattle.transport.proofs.Orders.Length.{order-length}
 use Rattle.transport.proofs.Finder.Find.{find-is-order}
 use Rattle.specification.specs.Reply.{Size, gives, refuses, refused, statedCounts}
@@ -17,7 +20,11 @@ use Rattle.specification.specs.declared.Counts.the-variants.{Refused}
 use Rattle.specification.specs.Book.{readBook, problemOf}
 use Rattle.specification.specs.OrderFile.{orderFile}
 use Rattle.specification.specs.Find.{orderLength, foundOrder, findOrder, findBuffer}
+use Rattle.specification.specs.Idle.{enlarged}
+use Rattle.specification.proofs.Books.{problem-within, size-within}
 use Rattle.files.specs.Files.{refusalOf}
+use Rattle.book.proofs.Readable.{Read}
+use Rattle.finder.specs.Searched.{searched}
 use Rattle.finder.specs.Writing.{Orders}
 use Rattle.slacks.specs.declared.Search.{Search}
 use Rattle.slacks.specs.declared.Search.the-variants.{Found, Nothing}
@@ -77,3 +84,16 @@ module _ (book buffer after : List ℕ) {size : Size} (e : readBook book ≡ giv
           let replies = given-replies book buffer S (found-by book buffer e (some S) h f) in
           let long = order-length (find-is-order (problemOf book) S f) in
           (replies .0, w .1 ∙ ap (λ (k : ℕ). orderFile S ++ drop (7 + 2 * k) buffer) long ∙ replies .1)
+
+-- the pairs that are searched: no more than 1,024, where there is room for the idle call
+pub searched-within : {book : List ℕ} {n m : ℕ} → Read book n m → (idle : Bool) → (idle ≡ true → m < 32)
+    → size (searched idle book) ≤ 1024
+unfolding problemOf
+searched-within r false room = size-within (r .known)
+searched-within {book} r true room =
+    let few : suc (problemOf book .calls) ≤ 32 = omega (arith, room refl, r .calls-is) in
+    omega (
+      arith,
+      count-le (enlarged book) (enlarged book .admits),
+      mul-le-mul (problem-within (r .known) .0) few,
+    )

@@ -1,9 +1,4 @@
--- What is searched, and what the finder's work arrays hold.
+-- What is searched, and what the finder answers and writes.
 pub mod Searched  -- the book's problem, or the enlarged one
-pub mod Filling  -- a table of slacks filled from the book's rows
-pub mod Table  -- a table filled row by row
-pub mod Words  -- words of lots and calls
-pub mod Rows  -- least gaps
-pub mod Waiting  -- which pair is next, and the marks of the pairs that wait
-pub mod Work  -- all that the search by least gaps keeps
+pub mod Ranked  -- the answer of the search by corners
 pub mod Writing  -- the order file that is written

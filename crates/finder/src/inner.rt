@@ -1,9 +1,9 @@
 // Finding an order of the eligible pairs of a book that was read, or of the enlarged book, for the other crates.
-use super::filling::add_idle;
-use super::filling::fill_slacks;
 use super::search::find_by_slacks;
 use slacks::PAIRS;
 use slacks::Search;
+use slacks::filling::add_idle;
+use slacks::filling::fill_slacks;
 ghost use mathlib.Core.Path.{_≡_};
 ghost use mathlib.Core.Bool.{true};
 ghost use Prim.Native.Nat.{_+_, _*_, _≤_, _<_};

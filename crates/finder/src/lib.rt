@@ -1,13 +1,9 @@
 // Finding an order (document 01, "Finding an order"): the free pair of lowest lot, then lowest call, is taken until none remains or none is
 // free. There are two searches: by corners, where all pairs are eligible and the costs are Monge by some ranks of lots and calls, and else by least
 // gaps. Both take the same pairs.
-mod filling;
 pub mod inner;
-mod lefts;
 mod ranked;
-mod rows;
 mod search;
-mod waiting;
 mod writing;
 
 use slacks::Search;

@@ -9,7 +9,7 @@ ghost use Prim.Native.Nat.{_≤_};
 ghost use lib.ListN.{length};
 ghost use Rattle.transport.specs.Finder.{size, find};
 ghost use Rattle.slacks.specs.Slacks.{bySlacks, Slacks};
-ghost use Rattle.finder.specs.Work.{FindsByRanks};
+ghost use Rattle.finder.specs.Ranked.{FindsByRanks};
 
 // What was found, or that it does not apply.
 pub enum ByRanks {

@@ -34,7 +34,7 @@ use Rattle.specification.proofs.Replies.{not-both, neither-of-or, said-of-given
 use Rattle.specification.proofs.Books.{head-says, headed-reads}
 use Rattle.book.proofs.Readable.{counts-are}
 use Rattle.finder.specs.Searched.{searched}
-use Rattle.finder.proofs.Idle.{searched-within}
+use Rattle.finder.proofs.Books.{searched-within}
 use Rattle.remaining.specs.declared.Remaining.{Remaining}
 use Rattle.remaining.specs.States.{HoldsState, Loaded, OneCallMore}
 use Rattle.remaining.specs.Replies.{ShowsEnd}

@@ -1,20 +1,22 @@
 -- Laws of ranks. A book with as many eligible pairs as pairs is complete (`complete-of`). A table whose neighbours fit is Monge (`monge-of-next`),
 -- and slacks laid out by ranks that are checked state the same problem (`ranking-of`).
-use mathlib.Core.Path.{_≡_, refl, sym, _∙_, ap, ap₂}
-use mathlib.Core.Logic.{⊎-elim}
-use mathlib.Core.Bool.{Bool, cond}
+use mathlib.Core.Path.{_≡_, refl, sym, _∙_, ap, ap₂, subst}
+use mathlib.Core.Logic.{by-cases}
+use mathlib.Core.Bool.{true, false, _||_, and-true, and-false, or-false}
 use mathlib.Core.List.{List}
-use Prim.Native.Nat.{ℕ, zero, suc, _+_, _*_, _-_, _≤_, _<_}
-use native.Mathlib.Nat.{mul-zero, zero-mul, suc-mul}
+use Prim.Native.Nat.{ℕ, suc, _+_, _*_, _-_, _≤_, _<_}
+use native.Mathlib.Nat.{mul-zero, zero-mul}
 use native.Mathlib.Omega.{arith}
 use borrow.Author.Count.{below-more}
 use borrow.Author.Tests.{lt-ltb}
+use lib.Dec.{T}
 use lib.ListN.{length, set, getD, length-set}
 use lib.Seq.{getD-set-same, getD-set-other}
-use Rattle.transport.specs.Problem.{sum}
-use Rattle.transport.specs.Finder.{size}
-use Rattle.transport.proofs.Laws.Tests.{T-true, below-suc, counted-le, counted-says, positive}
-use Rattle.transport.proofs.Laws.Sums.{sum-le}
+use Rattle.transport.specs.Problem.{Problem}
+use Rattle.transport.specs.Greedy.{pair}
+use Rattle.transport.specs.Finder.{without, size}
+use Rattle.transport.proofs.Laws.Tests.{T?, T-true, T-false, or-of-right, same, same→eq, same-of-eq, positive}
+use Rattle.transport.proofs.Laws.Sets.{Agree, withPair, count-le, count-same, count-without}
 use Rattle.transport.proofs.Finder.Ranks.{Renames, monge-of-neighbours}
 use Rattle.transport.proofs.Finder.Same.{Same}
 use Rattle.specification.specs.Costs.{costTop}
@@ -24,36 +26,31 @@ use Rattle.ranks.specs.Ranked.{byRanks, MongeBy, Ranking}
 use Rattle.ranks.specs.Laid.{Complete, Undoes, slackBy, LaidOut, FitsNext}
 use Rattle.slacks.proofs.BySlacks.{remains-says, remains-of, admits-is, capped-set}
 
--- n terms that are at most c and sum up to n times c are each c
-sum-full : (n c : ℕ) (f : ℕ → ℕ) → ((i : ℕ) → i < n → f i ≤ c) → n * c ≤ sum n f → (i : ℕ) → i < n → c ≤ f i
-unfolding sum
-sum-full zero c f le full i h = absurd (omega arith)
-sum-full (suc n) c f le full i h =
-    let most = sum-le n c f (λ k l. le k (omega arith)) in
-    ⊎-elim
-    (λ (e : i ≡ n). rw e (omega (arith, suc-mul n c)))
-    (λ (l : i < n). sum-full n c f (λ k l. le k (omega arith)) (omega (arith, suc-mul n c, le n (omega arith))) i l)
-    (below-suc h)
-
--- where as many pairs are eligible as there are pairs, each has slack
+-- where as many pairs are eligible as there are pairs, each has slack: one that had none would be one more
 pub complete-of : (slacks : List ℕ) (n m : ℕ) → 0 < n * m → n * m ≡ size (bySlacks slacks n m) → Complete slacks n m
 complete-of slacks n m some full = record {
   lots-some = positive n (λ e. omega (arith, ap (λ (k : ℕ). k * m) e, zero-mul m));
   calls-some = positive m (λ e. omega (arith, ap (λ (k : ℕ). n * k) e, mul-zero n));
-  has-slack = λ i j hi hj. remains-says slacks i j (counted-says (remains slacks i j) 1 (has i j hi hj));
+  has-slack = λ i j hi hj. remains-says slacks i j (subst T (admits-is slacks n m i j hi hj) (by-cases (T? (P .admits i j)) (λ t. t) (λ none.
+      let more = withPair (P .admits) (pair i j) in
+      let there = or-of-right (P .admits i j) (same i j (pair i j)) (same-of-eq i j (pair i j) refl refl) in
+      absurd (omega (
+        arith,
+        full,
+        count-le P more,
+        count-without P more (pair i j) (hi, hj, there),
+        count-same P (without more (pair i j)) (P .admits) (as-was i j none),
+      )))));
 }
   where
-    one : ℕ → ℕ → ℕ
-    one i j = cond (bySlacks slacks n m .admits i j) 1 0
+    P : Problem
+    P = bySlacks slacks n m
 
-    few : (i j : ℕ) → one i j ≤ 1
-    few i j = counted-le (bySlacks slacks n m .admits i j) 1
-
-    has : (i j : ℕ) → i < n → j < m → 0 < cond (remains slacks i j) 1 0
-    has i j hi hj =
-        let row = sum-full n m (λ k. sum m (one k)) (λ k h. omega (arith, sum-le m 1 (one k) (λ l g. few k l))) (omega (arith, full)) i hi in
-        let cell = sum-full m 1 (one i) (λ l g. few i l) (omega (arith, row)) j hj in
-        omega (arith, cell, ap {B = ℕ} (λ (b : Bool). cond b 1 0) (admits-is slacks n m i j hi hj))
+    as-was : (i j : ℕ) → (T (P .admits i j) → ⊥) → Agree P (without (withPair (P .admits) (pair i j)) (pair i j)) (P .admits)
+    as-was i j none a b ha hb = by-cases (T? (same a b (pair i j)))
+        (λ s. let (y, z) = same→eq a b (pair i j) s in
+        rw (T-true (same a b (pair i j)) s) (and-false (P .admits a b || true) ∙ sym (rw (y, z) (T-false (P .admits i j) none))))
+        (λ s. rw (T-false (same a b (pair i j)) s) (and-true (P .admits a b || false) ∙ or-false (P .admits a b)))
 
 -- before the first call nothing is laid out
 pub laid-none : {slacks lots calls : List ℕ} {n : ℕ} {table turned : List ℕ} → Capped table → Capped turned → length table ≡ 1024
@@ -155,14 +152,16 @@ ranking-of {slacks} {lots} {lotRanks} {calls} {callRanks} {table} {turned} {n} {
   record {
     lots-some = full .lots-some;
     calls-some = full .calls-some;
-    lots-few = s .lots-few;
-    calls-few = s .calls-few;
     lots-ranked = byLot;
     calls-ranked = byCall;
-    capped = laid .capped;
-    turned-capped = laid .turned-capped;
-    monge = monge;
-    turned-is = λ p q hp hq. laid .turned-at p q hp hq ∙ sym (laid .at p q hp hq);
+    tabled = record {
+      rows-few = s .lots-few;
+      columns-few = s .calls-few;
+      capped = laid .capped;
+      turned-capped = laid .turned-capped;
+      monge = monge;
+      turned-is = λ p q hp hq. laid .turned-at p q hp hq ∙ sym (laid .at p q hp hq);
+    };
   },
   record {
     lots = refl;

@@ -29,15 +29,19 @@ byRanks table lotRanks callRanks n m = record {
   cost = λ i j. suc costTop - entry table (getD lotRanks i 0) (getD callRanks j 0);
 }
 
--- each lot and call has its rank, and the table and the turned one are Monge and say the same
-pub record Ranking (n m : ℕ) (lots lotRanks calls callRanks table turned : List ℕ) : Type 0 where
-  pub lots-some : 0 < n
-  pub calls-some : 0 < m
-  pub lots-few : n ≤ 32
-  pub calls-few : m ≤ 32
-  pub lots-ranked : Renames n (λ i. getD lotRanks i 0) (λ p. getD lots p 0)
-  pub calls-ranked : Renames m (λ j. getD callRanks j 0) (λ q. getD calls q 0)
+-- the table and the turned one, of n rows and m columns, are Monge and say the same
+pub record Tabled (n m : ℕ) (table turned : List ℕ) : Type 0 where
+  pub rows-few : n ≤ 32
+  pub columns-few : m ≤ 32
   pub capped : Capped table
   pub turned-capped : Capped turned
   pub monge : MongeBy table n m
   pub turned-is : (p q : ℕ) → p < n → q < m → entry turned q p ≡ entry table p q
+
+-- each lot and call has its rank, and the slacks are laid out by these
+pub record Ranking (n m : ℕ) (lots lotRanks calls callRanks table turned : List ℕ) : Type 0 where
+  pub lots-some : 0 < n
+  pub calls-some : 0 < m
+  pub lots-ranked : Renames n (λ i. getD lotRanks i 0) (λ p. getD lots p 0)
+  pub calls-ranked : Renames m (λ j. getD callRanks j 0) (λ q. getD calls q 0)
+  pub tabled : Tabled n m table turned

@@ -6,6 +6,7 @@ use guess::guess;
 use guess::one_if_below;
 use slacks::PAIRS;
 use slacks::SIDE;
+use slacks::entry_at;
 ghost use mathlib.Core.Path.{_≡_};
 ghost use mathlib.Core.Bool.{true};
 ghost use Prim.Native.Nat.{ℕ, _+_, _≤_, _<_};
@@ -72,7 +73,7 @@ fn lay_call(
     let call = wide(calls[q]);
     let mut p = 0;
     while p < n {
-        let slack = slacks[SIDE * call + wide(lots[p])];
+        let slack = entry_at(slacks, call, wide(lots[p]));
         table[SIDE * p + q] = slack;
         turned[SIDE * q + p] = slack;
         p += 1;
@@ -107,8 +108,8 @@ fn misfit(table: &[u32; PAIRS], p: usize, q: usize) -> u32
     ensures { λ r. ⌜ (r ≤ 1) × (r ≡ 0 → FitsNext (now (table .entry)) p q) ⌝ }
 {
     one_if_below(
-        table[SIDE * p + q] + table[SIDE * (p + 1) + (q + 1)],
-        table[SIDE * p + (q + 1)] + table[SIDE * (p + 1) + q],
+        entry_at(table, p, q) + entry_at(table, p + 1, q + 1),
+        entry_at(table, p, q + 1) + entry_at(table, p + 1, q),
     )
 }
 

@@ -1,5 +1,7 @@
-// What both searches for an order share. They go through a table of slacks: how far a pair's cost lies below one more than the limit, at `SIDE` times
+// What the searches for an order share. They go through a table of slacks: how far a pair's cost lies below one more than the limit, at `SIDE` times
 // call plus lot, and 0 where the pair is not eligible. They answer with the bytes of the pairs that they found.
+pub mod filling;
+
 use specification::COST_LIMIT;
 use specification::Call;
 use specification::Lot;
@@ -7,6 +9,7 @@ ghost use mathlib.Core.Path.{_≡_};
 ghost use mathlib.Core.List.{[], _∷_, _++_};
 ghost use Prim.Native.Nat.{_+_, _*_, _≤_, _<_};
 ghost use lib.ListN.{length, take};
+ghost use Rattle.book.specs.Table.{entry};
 
 // How many lots, and how many calls, the tables have room for. A word of 32 bits holds a row, so it is at most 32.
 pub const SIDE: usize = 32;
@@ -24,6 +27,14 @@ pub const SLACK_MOST: u32 = COST_LIMIT + SLACK_OF_ZERO;
 pub enum Search {
     Found(usize),
     Nothing,
+}
+
+// What a table of `SIDE` rows holds in a row at a column.
+pub fn entry_at(table: &[u32; PAIRS], row: usize, column: usize) -> u32
+    requires { ⌜ (row < 32) × (column < 32) ⌝ }
+    ensures { λ r. ⌜ r ≡ entry (now (table .entry)) row column ⌝ }
+{
+    table[SIDE * row + column]
 }
 
 // The pair becomes the next of the pairs, two bytes each.

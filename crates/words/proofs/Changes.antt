@@ -1,17 +1,18 @@
 -- A word less the numbers of another, digit by digit and as a difference; so one number taken out, and one put in.
-use mathlib.Core.Path.{_≡_, refl, ap, _∙_}
-use mathlib.Core.Bool.{Bool, true, false, not, _&&_, _||_, and-true, and-false, or-false}
+use mathlib.Core.Path.{_≡_, refl, sym, ap, _∙_, subst⁻¹}
+use mathlib.Core.Bool.{Bool, true, false, not, _&&_, _||_, and-true, and-false, or-false, true≢false}
 use Prim.Native.Nat.{ℕ, suc, _+_, _-_, _/_, _%_, _^_, _<_}
 use native.Mathlib.Nat.{mod-lt, lt-of-lt-of-le, lt-of-le-of-lt, pow-suc}
 use native.Mathlib.Omega.{arith}
+use borrow.Author.Count.{below-more}
 use borrow.Author.Tests.{eq-eqb, ne-eqb}
 use lib.Dec.{T, eqb, eqb→eq}
 use lib.Bits.{bitAnd, bitOr, bitXor, and-le-l, xor-lt, xor-add-and, and-comm}
 use lib.Pow.{pow-pos, field, mod-mod-pow, pow-mono}
 use Rattle.specification.specs.Book.{bit}
 use Rattle.rows.proofs.Bits.{bit-past}
-use Rattle.words.specs.Words.{Below, Minus, Without, IncludingIf}
-use Rattle.words.proofs.Sets.{bit-or, bit-and, bit-xor, bit-single, cut-same}
+use Rattle.words.specs.Words.{Below, Minus, Without, Begins, IncludingIf}
+use Rattle.words.proofs.Sets.{bit-none, bit-or, bit-and, bit-xor, bit-single, cut-same}
 use Rattle.words.proofs.Ends.{lowest-is}
 
 -- the lower digits
@@ -73,3 +74,22 @@ including-is w j = record {
     all : (b : Bool) → (b || true) ≡ true
     all true = refl
     all false = refl
+
+-- a number that is left of a word is not the one taken out, and was in it
+pub not-lost : {word j after : ℕ} → Without word j after → (l : ℕ) → bit after l ≡ true → l ≡ j → ⊥
+not-lost {word} {j} {after} w l e z = true≢false (sym e ∙ subst⁻¹ (λ (x : ℕ). bit after x ≡ false) z (w .out))
+
+pub was-in : {word j after : ℕ} → Without word j after → (l : ℕ) → bit after l ≡ true → bit word l ≡ true
+was-in w l e = sym (w .others l (not-lost w l e)) ∙ e
+
+-- a word of the numbers at which a test holds, number by number
+pub begins-none : (test : ℕ → Bool) → Begins test 0 0
+begins-none test = record { first = λ j h. absurd (omega arith); none = λ j h. bit-none j }
+
+pub begins-more : (test : ℕ → Bool) (j word after : ℕ) → Begins test j word → IncludingIf (test j) word j after → Begins test (j + 1) after
+begins-more test j word after h r = record {
+  first = below-more _ _
+      (λ l hl. r .others l (λ e. omega arith) ∙ h .first l hl)
+      (r .own ∙ ap (λ (b : Bool). test j || b) (h .none j (omega arith)) ∙ or-false (test j));
+  none = λ l hl. r .others l (λ e. omega arith) ∙ h .none l (omega arith);
+}

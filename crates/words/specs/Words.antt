@@ -38,6 +38,11 @@ pub record Without (word j after : ℕ) : Type 0 where
   pub others : (l : ℕ) → (l ≡ j → ⊥) → bit after l ≡ bit word l
   pub lower : bit word j ≡ true → after < word
 
+-- the word has the numbers below count at which the test holds, and no other
+pub record Begins (test : ℕ → Bool) (count word : ℕ) : Type 0 where
+  pub first : (j : ℕ) → j < count → bit word j ≡ test j
+  pub none : (j : ℕ) → count ≤ j → bit word j ≡ false
+
 -- j is put into the word where the test holds
 pub record IncludingIf (test : Bool) (word j after : ℕ) : Type 0 where
   pub own : bit after j ≡ (test || bit word j)

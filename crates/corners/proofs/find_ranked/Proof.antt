@@ -5,7 +5,7 @@ use native.Mathlib.Omega.{arith}
 use lib.ListN.{length, getD}
 use Rattle.ranks.specs.Ranked.{byRanks}
 use Rattle.corners.specs.Halves.{has, Takes, canTake}
-use Rattle.corners.proofs.First.{zeros-at}
+use Rattle.slacks.proofs.BySlacks.{zeros-at}
 use Rattle.corners.proofs.ByRanks.{next-none, lot-positive, next-lowest, takes, releases, left-then}
 use Rattle.corners.proofs.Searching.{Searching, total-few, first-frees, searching-first, searching-next, going-first}
 use Rattle.slacks.proofs.Going.{Going, going-stop, going-done, going-next}
@@ -54,15 +54,15 @@ abbrev found : tie.After-slice-known2 Inv-loop μ-loop → tie.After-lowest2 Inv
 found c = c .before .before .before .before .before .before .before .before .before .before .before .before .before .before .before
 
 first-marks-requires : tie.Need-first-marks-requires Inv-loop μ-loop
-first-marks-requires c κs = let k = c .before .before .before .before .before .pre .0 in ((k .lots-few, k .calls-some, k .calls-few, k .capped), (refl, refl, zeros-at))
+first-marks-requires c κs = let k = c .before .before .before .before .before .pre .0 in ((k .tabled .rows-few, k .calls-some, k .tabled .columns-few, k .tabled .capped), (refl, refl, zeros-at 32))
 
 first-marks-requires-2 : tie.Need-first-marks-requires-2 Inv-loop μ-loop
-first-marks-requires-2 c κs = let k = c .before .before .before .before .before .before .before .before .pre .0 in ((k .lots-few, k .calls-some, k .calls-few, k .capped), (refl, refl, zeros-at))
+first-marks-requires-2 c κs = let k = c .before .before .before .before .before .before .before .before .pre .0 in ((k .tabled .rows-few, k .calls-some, k .tabled .columns-few, k .tabled .capped), (refl, refl, zeros-at 32))
 
 first-free-requires : tie.Need-first-free-requires Inv-loop μ-loop
 first-free-requires c κs =
     let start = c .before .before .before .before .before .before .before .before .before .before .before .before in
-    ((start .args .m, first-frees (start .pre .0) (c .before .before .before .before .before .before .first-marks .ensures)), (refl, zeros-at))
+    ((start .args .m, first-frees (start .pre .0) (c .before .before .before .before .before .before .first-marks .ensures)), (refl, zeros-at 32))
 
 loop-holds : tie.Need-loop-holds Inv-loop μ-loop
 loop-holds c =

@@ -9,7 +9,7 @@ use borrow.Author.Needs.{needs}
 use lib.Seq.{length-take-le}
 use Rattle.book.proofs.Readable.{counts-are}
 use Rattle.finder.specs.Searched.{searched}
-use Rattle.finder.proofs.Idle.{searched-within}
+use Rattle.finder.proofs.Books.{searched-within}
 use Rattle.remaining.proofs.Loading.{sizes-within, too-short, long-enough}
 use Rattle.placer.proofs.Found.{IsFile, none-found, file-found}
 use Rattle.placer.proofs.Placing.{places-17, places-13, few, run-accepted, run-places}

@@ -18,7 +18,7 @@ fits-requires : tie.Need-fits-requires Inv-loop μ-loop
 fits-requires c κs =
     let next = c .before .before .before in
     let pre = next .before .before .pre in
-    (row-lt pre, c .end2 .ensures .1, next .beside .ensures .1, next .before .end .ensures .1, pre .capped)
+    (row-lt pre, c .end2 .ensures .1, next .beside .ensures .1, next .before .end .ensures .1, pre .row .capped)
 
 returns : tie.Need-returns Inv-loop μ-loop
 returns c =
@@ -37,7 +37,7 @@ fits-requires-2 : tie.Need-fits-requires-2 Inv-loop μ-loop
 fits-requires-2 c κs =
     let test = c .before .before .before .before in
     let start = test .before .before .before .before .before in
-    (row-lt (start .pre), test .end2 .ensures .1, c .end3 .ensures .1, test .before .before .before .before .end .ensures .1, start .pre .capped)
+    (row-lt (start .pre), test .end2 .ensures .1, c .end3 .ensures .1, test .before .before .before .before .end .ensures .1, start .pre .row .capped)
 
 loop-less : tie.Need-loop-less Inv-loop μ-loop
 loop-less c =

@@ -15,7 +15,7 @@ returns c =
     let u = c .before .before .before .before .before .minus .ensures .each in
     let r = c .before .before .before .before .renewed .ensures in
     let t = c .before .before .either .ensures .each in
-    row-renewed (start .args .marks .now) (start .args .mirror .now) _ (omega (arith, h .lost .row-in, h .lost .rows-few, start .pre .1))
+    row-renewed (start .args .marks .now) (start .args .mirror .now) _ (omega (arith, h .lost .loses .row .row-in, h .lost .loses .row .rows-few, start .pre .1))
     (halves-renewed h _ u _ _ r t) (new-among h _ u r) t (c .cross .ensures)
 
 pub renew-spec : {M : Type 1} → statement M

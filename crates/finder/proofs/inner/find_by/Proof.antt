@@ -1,6 +1,6 @@
 -- `finder::inner::find_by` meets its contract: the table of slacks states the problem that is searched, so the same order is found.
 use borrow.Author.Needs.{needs}
-use mathlib.Core.Path.{_≡_, sym, subst⁻¹}
+use mathlib.Core.Path.{_≡_, subst⁻¹}
 use mathlib.Core.Bool.{Bool}
 use mathlib.Core.List.{List}
 use Prim.Native.Nat.{ℕ, _+_, _≤_}
@@ -10,10 +10,9 @@ use Rattle.transport.specs.Finder.{size}
 use Rattle.transport.proofs.Finder.Same.{Same, same-trans, size-of-same, find-of-same}
 use Rattle.transport.proofs.Finder.Idle.{idle-size}
 use Rattle.specification.specs.Costs.{costLimit}
-use Rattle.book.proofs.Readable.{counts-are}
 use Rattle.slacks.specs.Slacks.{bySlacks}
 use Rattle.finder.specs.Searched.{searched}
-use Rattle.finder.proofs.Idle.{searched-within}
+use Rattle.slacks.proofs.BySlacks.{size-few}
 use Rattle.finder.proofs.inner.find_by.Statement.{statement}
 use Rattle.finder.proofs.inner.find_by.Tie as tie
 
@@ -48,9 +47,7 @@ module _ (c : tie.After-add-idle) where
   total-is = omega (arith, filled .fill-slacks .ensures .1 .1 .1, idle-size costLimit (stated filled), size-of-same (c .add-idle .ensures .0))
 
   few : size enlarged ≤ 1024
-  few =
-      let p = start filled .pre in
-      omega (arith, size-of-same same-idle, searched-within (counts-are _ (sym (p .0))) (start filled .args .idle) (p .1 .0))
+  few = size-few (c .add-idle .ensures .1)
 
 find-by-slacks-requires : tie.Need-find-by-slacks-requires
 find-by-slacks-requires c κs =

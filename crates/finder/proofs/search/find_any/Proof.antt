@@ -3,7 +3,7 @@ use borrow.Author.Needs.{needs}
 use mathlib.Core.Path.{subst}
 use Rattle.transport.specs.Finder.{find}
 use Rattle.slacks.specs.Slacks.{bySlacks}
-use Rattle.finder.specs.Work.{FindsByRanks}
+use Rattle.finder.specs.Ranked.{FindsByRanks}
 use Rattle.finder.specs.declared.ranked.ByRanks.{ByRanks}
 use Rattle.finder.proofs.search.find_any.Statement.{statement}
 use Rattle.finder.proofs.search.find_any.Tie as tie

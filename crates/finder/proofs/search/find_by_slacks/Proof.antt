@@ -3,7 +3,7 @@ use borrow.Author.Needs.{needs}
 use native.Mathlib.Omega.{arith}
 use Rattle.transport.specs.Finder.{find}
 use Rattle.slacks.specs.Slacks.{bySlacks}
-use Rattle.finder.proofs.Turns.{size-few}
+use Rattle.slacks.proofs.BySlacks.{size-few}
 use Rattle.finder.proofs.Writes.{counts-found, orders-found, orders-none}
 use Rattle.finder.proofs.search.find_by_slacks.Statement.{statement}
 use Rattle.finder.proofs.search.find_by_slacks.Tie as tie
@@ -22,7 +22,7 @@ write-order-requires c κs =
     let p = c .before .before .before .before .before .before .before .before .before .pre in
     let f = c .before .before .before .before .before .before .find-any in
     let e = counts-found (bySlacks (a .slacks .now) (a .n) (a .m)) _ _ _ (c .before .before .before .found .given .1) (f .ensures) in
-    let few = size-few (a .slacks .now) (a .n) (a .m) (p .0) in
+    let few = size-few (p .0) in
     (omega arith, omega (arith, f .kept .1 .1 .1 .1 .0), omega (arith, p .1, p .2))
 
 returns-2 : tie.Need-returns-2
