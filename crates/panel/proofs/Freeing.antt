@@ -19,8 +19,8 @@ use Rattle.transport.proofs.Finder.Free.{Takeable, next-is}
 use Rattle.specification.specs.Costs.{costTop}
 use Rattle.slacks.specs.Slacks.{Capped}
 use Rattle.words.specs.Lefts.{isLeft}
-use Rattle.panel.specs.Filling.{slackAt}
-use Rattle.panel.specs.Gaps.{gapOf}
+use Rattle.panel_table.specs.Filling.{slackAt}
+use Rattle.panel_table.specs.Gaps.{gapOf}
 use Rattle.panel.specs.Search.{problemIn, AllLeast, Frees, FirstFree, Left}
 
 module _ (slacks : List ℕ) (n m : ℕ) (capped : Capped slacks) where

@@ -1,6 +1,4 @@
 -- Laws of the ticket panel's search, apart from its code.
-pub mod Entering  -- a book's slacks, entered lot by lot
-pub mod LeastGaps  -- the calls at which gaps are least, passed one by one
 pub mod Freeing  -- free by the words is free in the problem
 pub mod Words  -- the word of a lot's free calls, and the lowest free pair
 pub mod Taking  -- a turn of the search, and what all of them come to

@@ -45,7 +45,7 @@ use Rattle.remaining.proofs.Loading.{lots-are, calls-are, can-load, long-enough
 use Rattle.words.specs.Lefts.{isLeft}
 use Rattle.panel.specs.declared.Remaining.{Remaining}
 use Rattle.panel.specs.declared.search.Taken.{Taken}
-use Rattle.panel.specs.Filling.{slackAt, Within, Filled}
+use Rattle.panel_table.specs.Filling.{slackAt, Within, Filled}
 use Rattle.panel.specs.Search.{problemIn, Left, Searching, Gives, TakenBy, TakenAll}
 
 -- problems of one size have the same outcome and the same flow

@@ -27,8 +27,8 @@ use Rattle.remaining.specs.Replies.{Written}
 use Rattle.remaining.proofs.States.{holds-room, no-room-holds, giveAll-falls}
 use Rattle.remaining.proofs.Writing.{written-none, written-put}
 use Rattle.panel.specs.declared.Remaining.{Remaining}
-use Rattle.panel.specs.Filling.{cell, slackAt}
-use Rattle.panel.specs.Gaps.{LeastCalls, Renewed}
+use Rattle.panel_table.specs.Filling.{cell, slackAt}
+use Rattle.panel_table.specs.Gaps.{LeastCalls, Renewed}
 use Rattle.panel.specs.Search.{problemIn, AllLeast, Frees, FirstFree, Left, Searching, Gave, Gives}
 use Rattle.panel.proofs.Freeing.{next-of-pair, none-of-nothing}
 

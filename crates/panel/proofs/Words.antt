@@ -12,8 +12,8 @@ use Rattle.specification.specs.Book.{bit}
 use Rattle.words.specs.Words.{LowestIn, Minus}
 use Rattle.words.proofs.Ends.{word-positive}
 use Rattle.words.specs.Lefts.{isLeft}
-use Rattle.panel.specs.Filling.{cell}
-use Rattle.panel.specs.Gaps.{LeastCalls, Renewed}
+use Rattle.panel_table.specs.Filling.{cell}
+use Rattle.panel_table.specs.Gaps.{LeastCalls, Renewed}
 use Rattle.panel.specs.Search.{AllLeast, Frees, FreeCalls, FirstFree}
 
 module _ (lefts least : List ℕ) (i : ℕ) where

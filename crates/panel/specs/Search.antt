@@ -18,8 +18,8 @@ use Rattle.panel.specs.declared.Remaining.{Remaining}
 use Rattle.panel.specs.declared.search.Next.{Next}
 use Rattle.panel.specs.declared.search.Next.the-variants.{Pair as IsPair, Nothing}
 use Rattle.panel.specs.declared.search.Taken.{Taken}
-use Rattle.panel.specs.Filling.{cell, slackAt}
-use Rattle.panel.specs.Gaps.{LeastCalls}
+use Rattle.panel_table.specs.Filling.{cell, slackAt}
+use Rattle.panel_table.specs.Gaps.{LeastCalls}
 
 -- the problem that a table states
 abbrev pub problemIn : List ℕ → ℕ → ℕ → Problem

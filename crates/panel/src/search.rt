@@ -1,9 +1,9 @@
 // The search: the lowest free pair is taken and given its room, until none remains or none is free. A pair is free exactly where, for each lot
 // that still has its call, the gap over that lot at the call is least.
-use super::PAIRS;
 use super::Remaining;
-use super::SIDE;
-use super::gaps::renew;
+use panel_table::PAIRS;
+use panel_table::SIDE;
+use panel_table::gaps::renew;
 use remaining::smaller;
 use slacks::SLACK_MOST;
 use specification::Call;

@@ -7,7 +7,7 @@ use Prim.Native.Nat.{ℕ}
 use native.Mathlib.Omega.{arith}
 use borrow.Author.Needs.{needs}
 use Rattle.specification.specs.Amounts.{lotAmount, callAmount}
-use Rattle.panel.specs.Filling.{Filled}
+use Rattle.panel_table.specs.Filling.{Filled}
 use Rattle.panel.specs.Search.{problemIn}
 use Rattle.panel.proofs.Placing.{Supplied, Ended, known, loadable, within, cells-few, searching, refused-13, ended, units-long, answered}
 use Rattle.panel.proofs.find_then_run.Statement.{statement}

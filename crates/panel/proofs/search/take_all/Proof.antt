@@ -9,7 +9,7 @@ use lib.Arith.{digits-lt}
 use lib.ListN.{length, getD}
 use lib.Seq.{getD-set-same}
 use Rattle.words.proofs.Lefts.{taken-set}
-use Rattle.panel.specs.Filling.{slackAt}
+use Rattle.panel_table.specs.Filling.{slackAt}
 use Rattle.panel.specs.Search.{FirstFree, NextIs, Searching}
 use Rattle.panel.proofs.Taking.{Kept, total-few, kept-falls, kept-first, kept-stop, kept-done, kept-room, kept-no-room}
 use Rattle.panel.proofs.search.take_all.Statement.{statement}

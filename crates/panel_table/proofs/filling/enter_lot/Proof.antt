@@ -1,11 +1,11 @@
--- `panel::filling::enter_lot` meets its contract. The invariant: the calls still to come are in the row's word, and those that are not to come are
+-- `panel_table::filling::enter_lot` meets its contract. The invariant: the calls still to come are in the row's word, and those that are not to come are
 -- entered. The measure is the word of the calls to come.
 use mathlib.Core.Path.{_≡_, _∙_}
 use Prim.Native.Nat.{_<_}
 use native.Mathlib.Omega.{arith}
-use Rattle.panel.proofs.Entering.{Entering, lot-few, row-in, word-is, entering-none, entering-all, entering-one, call-few, cost-low}
-use Rattle.panel.proofs.filling.enter_lot.Statement.{statement}
-use Rattle.panel.proofs.filling.enter_lot.Tie as tie
+use Rattle.panel_table.proofs.Entering.{Entering, lot-few, row-in, word-is, entering-none, entering-all, entering-one, call-few, cost-low}
+use Rattle.panel_table.proofs.filling.enter_lot.Statement.{statement}
+use Rattle.panel_table.proofs.filling.enter_lot.Tie as tie
 
 abbrev Inv-loop : tie.InvT-loop
 Inv-loop book slacks₀ i at word calls₀ slacks calls = Entering book i calls slacks

@@ -14,7 +14,7 @@ ghost use mathlib.Core.Path.{_≡_};
 ghost use Prim.Native.Nat.{_+_, _<_};
 ghost use lib.ListN.{replicate};
 ghost use Rattle.specification.specs.Book.{rowWord, bookLots, rowAt};
-ghost use Rattle.panel.specs.Filling.{Within, Entered, Filled};
+ghost use Rattle.panel_table.specs.Filling.{Within, Entered, Filled};
 
 // Enters the slacks of a lot. The word of its calls.
 fn enter_lot(book: &[u8], lot: Lot, slacks: &mut [u32; PAIRS]) -> u32

@@ -1,9 +1,9 @@
--- `panel::gaps::gap` meets its contract, by its two cases.
+-- `panel_table::gaps::gap` meets its contract, by its two cases.
 use borrow.Author.Needs.{needs}
 use native.Mathlib.Omega.{arith}
 use borrow.Author.Tests.{eq-eqb, ne-eqb}
-use Rattle.panel.proofs.gaps.gap.Statement.{statement}
-use Rattle.panel.proofs.gaps.gap.Tie as tie
+use Rattle.panel_table.proofs.gaps.gap.Statement.{statement}
+use Rattle.panel_table.proofs.gaps.gap.Tie as tie
 
 returns : tie.Need-returns
 returns c = (rw (eq-eqb _ _ (c .if1 .taken)), omega arith)

@@ -1,11 +1,11 @@
--- `panel::gaps::renew` meets its contract. The invariant: the words passed stand in the lot's row, and the other rows are as they were.
+-- `panel_table::gaps::renew` meets its contract. The invariant: the words passed stand in the lot's row, and the other rows are as they were.
 use mathlib.Core.Path.{_≡_}
 use Prim.Native.Nat.{_-_, _≤_}
 use native.Mathlib.Omega.{arith}
-use Rattle.panel.specs.Gaps.{Renewed}
-use Rattle.panel.proofs.LeastGaps.{renewed-none, renewed-more}
-use Rattle.panel.proofs.gaps.renew.Statement.{statement}
-use Rattle.panel.proofs.gaps.renew.Tie as tie
+use Rattle.panel_table.specs.Gaps.{Renewed}
+use Rattle.panel_table.proofs.LeastGaps.{renewed-none, renewed-more}
+use Rattle.panel_table.proofs.gaps.renew.Statement.{statement}
+use Rattle.panel_table.proofs.gaps.renew.Tie as tie
 
 abbrev Inv-loop : tie.InvT-loop
 Inv-loop slacks left least₀ i words k₀ least k = (k ≤ 8) × Renewed slacks i left k least₀ least

@@ -1,11 +1,11 @@
--- `panel::gaps::with_call` meets its contract, by the two tests.
+-- `panel_table::gaps::with_call` meets its contract, by the two tests.
 use borrow.Author.Needs.{needs}
 use mathlib.Core.Path.{_≡_, sym, _∙_}
 use mathlib.Core.Bool.{cond}
 use mathlib.Core.Logic.{⊎-elim}
 use lib.Dec.{ltb}
-use Rattle.panel.proofs.gaps.with_call.Statement.{statement}
-use Rattle.panel.proofs.gaps.with_call.Tie as tie
+use Rattle.panel_table.proofs.gaps.with_call.Statement.{statement}
+use Rattle.panel_table.proofs.gaps.with_call.Tie as tie
 
 returns : tie.Need-returns
 returns c =

@@ -17,7 +17,7 @@ ghost use lib.Dec.{ltb};
 ghost use lib.ListN.{length};
 ghost use Rattle.specification.specs.Costs.{costTop};
 ghost use Rattle.slacks.specs.Slacks.{Capped};
-ghost use Rattle.panel.specs.Gaps.{gapOut, gapBy, LowRow, WithCall, Joined, LeastRow, Renewed};
+ghost use Rattle.panel_table.specs.Gaps.{gapOut, gapBy, LowRow, WithCall, Joined, LeastRow, Renewed};
 
 // Above all gaps.
 const GAP_OUT: u32 = 2 * SLACK_MOST + 1;

@@ -1,12 +1,12 @@
--- `panel::gaps::join_call` meets its contract. The invariant: the call has joined the words passed, and the others are as they were.
+-- `panel_table::gaps::join_call` meets its contract. The invariant: the call has joined the words passed, and the others are as they were.
 use mathlib.Core.Path.{_≡_, _∙_, ap}
 use Prim.Native.Nat.{_+_, _*_, _-_, _≤_, min}
 use native.Mathlib.Omega.{arith}
 use lib.ListN.{getD}
-use Rattle.panel.specs.Gaps.{Joined}
-use Rattle.panel.proofs.LeastGaps.{joined-none, joined-more}
-use Rattle.panel.proofs.gaps.join_call.Statement.{statement}
-use Rattle.panel.proofs.gaps.join_call.Tie as tie
+use Rattle.panel_table.specs.Gaps.{Joined}
+use Rattle.panel_table.proofs.LeastGaps.{joined-none, joined-more}
+use Rattle.panel_table.proofs.gaps.join_call.Statement.{statement}
+use Rattle.panel_table.proofs.gaps.join_call.Tie as tie
 
 abbrev Inv-loop : tie.InvT-loop
 Inv-loop slacks low₀ words₀ i l own k₀ low words k = (k ≤ 8) × Joined slacks i l k low₀ words₀ low words

@@ -9,7 +9,7 @@ use lib.ListN.{length, getD}
 use Rattle.specification.specs.Costs.{costTop}
 use Rattle.specification.specs.Book.{bit}
 use Rattle.words.specs.Words.{IncludingIf}
-use Rattle.panel.specs.Filling.{cell, slackAt}
+use Rattle.panel_table.specs.Filling.{cell, slackAt}
 
 -- above all gaps
 abbrev pub gapOut : ℕ

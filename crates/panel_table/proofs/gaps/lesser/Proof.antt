@@ -1,10 +1,10 @@
--- `panel::gaps::lesser` meets its contract, by the test.
+-- `panel_table::gaps::lesser` meets its contract, by the test.
 use borrow.Author.Needs.{needs}
 use mathlib.Core.Path.{sym, _∙_}
 use native.Mathlib.Omega.{arith}
 use borrow.Author.Tests.{ltb-true, ltb-false}
-use Rattle.panel.proofs.gaps.lesser.Statement.{statement}
-use Rattle.panel.proofs.gaps.lesser.Tie as tie
+use Rattle.panel_table.proofs.gaps.lesser.Statement.{statement}
+use Rattle.panel_table.proofs.gaps.lesser.Tie as tie
 
 returns : tie.Need-returns
 returns c =

@@ -1,11 +1,11 @@
--- `panel::filling::fill` meets its contract. The invariant: the lots below i are entered, and their words stand beside the table.
+-- `panel_table::filling::fill` meets its contract. The invariant: the lots below i are entered, and their words stand beside the table.
 use mathlib.Core.Path.{_≡_}
 use Prim.Native.Nat.{_-_, _≤_, _<_}
 use native.Mathlib.Omega.{arith}
-use Rattle.panel.specs.Filling.{Filled}
-use Rattle.panel.proofs.Entering.{filled-none, filled-more}
-use Rattle.panel.proofs.filling.fill.Statement.{statement}
-use Rattle.panel.proofs.filling.fill.Tie as tie
+use Rattle.panel_table.specs.Filling.{Filled}
+use Rattle.panel_table.proofs.Entering.{filled-none, filled-more}
+use Rattle.panel_table.proofs.filling.fill.Statement.{statement}
+use Rattle.panel_table.proofs.filling.fill.Tie as tie
 
 abbrev Inv-loop : tie.InvT-loop
 Inv-loop book n slacks₀ eligible₀ i₀ slacks eligible i = (i ≤ n) × Filled book i slacks eligible

@@ -1,9 +1,9 @@
--- `panel::gaps::least_row` meets its contract. The invariant: the numbers and words are those of the calls passed (`Passed`).
+-- `panel_table::gaps::least_row` meets its contract. The invariant: the numbers and words are those of the calls passed (`Passed`).
 use mathlib.Core.Path.{_≡_}
 use native.Mathlib.Omega.{arith}
-use Rattle.panel.proofs.LeastGaps.{Passed, passed-first, passed-next, low-row, below-eight, row-is-least}
-use Rattle.panel.proofs.gaps.least_row.Statement.{statement}
-use Rattle.panel.proofs.gaps.least_row.Tie as tie
+use Rattle.panel_table.proofs.LeastGaps.{Passed, passed-first, passed-next, low-row, below-eight, row-is-least}
+use Rattle.panel_table.proofs.gaps.least_row.Statement.{statement}
+use Rattle.panel_table.proofs.gaps.least_row.Tie as tie
 
 abbrev Inv-loop : tie.InvT-loop
 Inv-loop slacks left i low₀ words₀ calls₀ low words calls = Passed slacks i calls₀ calls low words

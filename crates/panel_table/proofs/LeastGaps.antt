@@ -17,7 +17,7 @@ use Rattle.specification.specs.Book.{bit}
 use Rattle.slacks.specs.Slacks.{Capped}
 use Rattle.words.specs.Words.{Below, Without}
 use Rattle.words.proofs.Sets.{bit-none}
-use Rattle.panel.specs.Gaps.{gapOut, gapOf, LowRow, WithCall, Joined, LeastCalls, LeastRow, Renewed}
+use Rattle.panel_table.specs.Gaps.{gapOut, gapOf, LowRow, WithCall, Joined, LeastCalls, LeastRow, Renewed}
 
 -- the calls passed are those in `left` and not in `rest`: of their gaps `low` is the least, above all gaps where there are none, and the word has
 -- those at which the gap is that

@@ -24,7 +24,7 @@ use Rattle.words.proofs.Sets.{bit-none}
 use Rattle.slacks.specs.Slacks.{slackIn, Capped}
 use Rattle.slacks.proofs.BySlacks.{capped-zeros, capped-set}
 use Rattle.slacks.proofs.Filled.{raised-low, slack-le}
-use Rattle.panel.specs.Filling.{slackAt, Within, Entered, Filled}
+use Rattle.panel_table.specs.Filling.{slackAt, Within, Entered, Filled}
 
 pub entered-none : (book slacks : List ℕ) → slacks ≡ replicate 64 0 → Entered book 0 slacks
 entered-none book slacks e = subst⁻¹ (Entered book 0) e record {
