@@ -1,4 +1,5 @@
-// One lot's row of a book. Each function is given the part of the book that starts at the lot's word, wherever in the file that is.
+// One lot's row of a book. Each function of it is given the part of the book that starts at the lot's word, wherever in the file that is;
+// `all_within` serves the amounts too.
 pub mod word;
 
 use files::Step;

@@ -1,4 +1,4 @@
--- `placer_check_order` meets its contract by what `order::check_order` and `told::checked` ensure.
+-- `placer_check_order` meets its contract by what `order::check_order` and `answers::checked` ensure.
 use mathlib.Core.Path.{_∙_, ap}
 use borrow.Author.Needs.{needs}
 use Rattle.answers.specs.Answers.{answerOf, number}

@@ -1,4 +1,4 @@
--- `placer_find_and_run_panel` meets its contract by what `placer::find_and_run_panel` and `told::placed` ensure.
+-- `placer_find_and_run_panel` meets its contract by what `placer::find_and_run_panel` and `answers::placed` ensure.
 use mathlib.Core.Path.{_∙_, ap}
 use borrow.Author.Needs.{needs}
 use Rattle.answers.specs.Answers.{answerOf, placed}

@@ -1,4 +1,4 @@
--- `placer_find_order` meets its contract by what `finder::find_order` and `told::found` ensure.
+-- `placer_find_order` meets its contract by what `finder::find_order` and `answers::found` ensure.
 use mathlib.Core.Path.{_∙_, ap}
 use borrow.Author.Needs.{needs}
 use Rattle.answers.specs.Answers.{answerOf, number}

@@ -1,4 +1,4 @@
--- `placer_pair_cost` meets its contract by what `book::pair_cost` and `told::cost` ensure.
+-- `placer_pair_cost` meets its contract by what `book::pair_cost` and `answers::cost` ensure.
 use mathlib.Core.Path.{_∙_, ap}
 use borrow.Author.Needs.{needs}
 use Rattle.answers.specs.Answers.{answerOf, costOf}

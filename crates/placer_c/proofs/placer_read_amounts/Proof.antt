@@ -1,4 +1,4 @@
--- `placer_read_amounts` meets its contract by what `amounts::read_amounts` and `told::counts` ensure.
+-- `placer_read_amounts` meets its contract by what `amounts::read_amounts` and `answers::counts` ensure.
 use mathlib.Core.Path.{_∙_, ap}
 use borrow.Author.Needs.{needs}
 use Rattle.answers.specs.Answers.{answerOf, counts}

@@ -1,4 +1,4 @@
--- `placer_read_book` meets its contract by what `book::read_book` and `told::counts` ensure.
+-- `placer_read_book` meets its contract by what `book::read_book` and `answers::counts` ensure.
 use mathlib.Core.Path.{_∙_, ap}
 use borrow.Author.Needs.{needs}
 use Rattle.answers.specs.Answers.{answerOf, counts}

@@ -1,4 +1,4 @@
--- `placer_run_order` meets its contract by what `run::run_order` and `told::placed` ensure.
+-- `placer_run_order` meets its contract by what `run::run_order` and `answers::placed` ensure.
 use mathlib.Core.Path.{_∙_, ap}
 use borrow.Author.Needs.{needs}
 use Rattle.answers.specs.Answers.{answerOf, placed}
