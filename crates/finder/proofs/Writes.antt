@@ -1,13 +1,13 @@
--- Laws of the order file's bytes: the opening, a copy, and the pairs that bytes hold.
-use mathlib.Core.Path.{_≡_, refl, sym, _∙_, ap, ap₂, subst}
-use mathlib.Core.List.{List, [], _∷_, _++_, append-assoc, append-nil}
+-- Laws of the order file's bytes: the opening and the copy, and the pairs that bytes hold.
+use mathlib.Core.Path.{_≡_, refl, sym, _∙_, ap}
+use mathlib.Core.List.{List, [], _∷_, _++_, append-nil}
 use mathlib.Core.Option.{Option, some, none}
-use Prim.Native.Nat.{ℕ, zero, suc, _+_, _*_, _/_, _%_, _≤_, _<_}
-use native.Mathlib.Numerals.{add-one}
+use Prim.Native.Nat.{ℕ, zero, suc, _+_, _-_, _*_, _/_, _%_, _≤_}
 use native.Mathlib.Omega.{arith}
 use borrow.Author.Tests.{le-ltb}
-use lib.ListN.{length, take, drop, set, getD, length-set, take-append-drop}
-use lib.Seq.{take-suc, take-suc-set, drop-set-lt, drop-drop}
+use borrow.Rule.Slice.PartMut.{putMid}
+use lib.ListN.{length, take, drop, length-drop, take-append-drop}
+use lib.Seq.{take-length, drop-length, length-take-le, drop-drop}
 use Rattle.transport.specs.Problem.{Problem}
 use Rattle.transport.specs.Greedy.{Pair}
 use Rattle.transport.specs.Finder.{size, find}
@@ -17,38 +17,9 @@ use Rattle.specification.specs.Bytes.{orderMark}
 use Rattle.files.specs.Files.{writeOpening}
 use Rattle.specification.specs.OrderFile.{pairs, pairBytes, orderFile}
 use Rattle.slacks.specs.Found.{Finds}
-use Rattle.finder.specs.Writing.{Copied, Orders}
+use Rattle.finder.specs.Writing.{Orders}
 use Rattle.slacks.specs.declared.Search.{Search}
 use Rattle.slacks.specs.declared.Search.the-variants.{Found, Nothing}
-
--- the opening of an order of at most 1,024 pairs
-opening-is : (count : ℕ) (before : List ℕ) → count ≤ 1024 → 7 ≤ length before
-    → writeOpening orderMark count before ≡ orderMark ++ (1 ∷ 0 ∷ count % 256 ∷ count / 256 ∷ drop 7 before)
-opening-is count before few h = let high : count / 256 % 256 ≡ count / 256 = omega arith in rw (le-ltb (length before) 7 h, high)
-
--- a copy, byte by byte
-pub copied-none : (src b : List ℕ) (start : ℕ) → Copied src 0 b start b
-copied-none src b start =
-    let e : start + 0 ≡ start = omega arith in
-    record { front = rw e (sym (append-nil (take start b))); behind = refl; long = refl }
-
-pub copied-more : (src b : List ℕ) (start k : ℕ) (now : List ℕ) → Copied src k b start now → k < length src → start + k < length b
-    → Copied src (k + 1) b start (set now (start + k) (getD src k 0))
-copied-more src b start k now r hs hb =
-    let e : start + (k + 1) ≡ suc (start + k) = omega arith in
-    record {
-      front = rw e (take-suc-set now (start + k) (getD src k 0) (omega (arith, r .long))
-          ∙ ap (λ (l : List ℕ). l ++ (getD src k 0 ∷ [])) (r .front)
-          ∙ append-assoc (take start b) (take k src) (getD src k 0 ∷ [])
-          ∙ ap (λ (l : List ℕ). take start b ++ l) (rw add-one (sym (take-suc src k 0 hs))));
-      behind = rw e (drop-set-lt (suc (start + k)) now (start + k) (getD src k 0) (omega arith) ∙ one-more);
-      long = simp length-set (r .long);
-    }
-  where
-    one-more : drop (suc (start + k)) now ≡ drop (suc (start + k)) b
-    one-more = let q : start + k + 1 ≡ suc (start + k) = add-one (start + k) in
-        subst (λ (n : ℕ). drop n now ≡ drop n b) q
-        (sym (drop-drop 1 (start + k) now) ∙ ap (drop 1) (r .behind) ∙ drop-drop 1 (start + k) b)
 
 -- the pairs that bytes hold
 pairs-length : (n : ℕ) (s : List ℕ) → length (pairs n s) ≡ n
@@ -74,23 +45,15 @@ pairs-found : (S : List Pair) (s : List ℕ) → take (2 * length S) s ≡ pairB
 pairs-found S s e = ap (pairs (length S)) (sym (take-append-drop (2 * length S) s))
     ∙ ap (λ (l : List ℕ). pairs (length S) (l ++ drop (2 * length S) s)) e ∙ pairs-back S (drop (2 * length S) s)
 
--- the opening and the copy make the file
-pub file-written : (count : ℕ) (src before mid after : List ℕ) → count ≤ 1024 → 2 * count ≤ length src → 7 ≤ length before
-    → mid ≡ writeOpening orderMark count before → Copied src (2 * count) mid 7 after
-    → after ≡ orderFile (pairs count src) ++ drop (7 + 2 * count) before
-file-written count src before mid after few h seven opened r =
-    sym (take-append-drop (7 + 2 * count) after) ∙ ap₂ _++_ front behind
-  where
-    e : mid ≡ orderMark ++ (1 ∷ 0 ∷ count % 256 ∷ count / 256 ∷ drop 7 before)
-    e = opened ∙ opening-is count before few seven
-
-    front : take (7 + 2 * count) after ≡ orderFile (pairs count src)
-    front = r .front ∙ ap (λ (l : List ℕ). take 7 l ++ take (2 * count) src) e
-        ∙ rw (pairs-length count src, pairs-bytes count src h) refl
-
-    behind : drop (7 + 2 * count) after ≡ drop (7 + 2 * count) before
-    behind = r .behind ∙ sym (drop-drop (2 * count) 7 mid) ∙ ap (λ (l : List ℕ). drop (2 * count) (drop 7 l)) e
-        ∙ drop-drop (2 * count) 7 before
+-- the opening and the copy make the file; the copy is as `bytes::copy` tells it, of the pairs' bytes to the part after the opening
+pub file-written : (count : ℕ) (src before mid part : List ℕ) → count ≤ 1024 → 2 * count ≤ length src → 7 ≤ length before
+    → mid ≡ writeOpening orderMark count before
+    → (let from = take (2 * count) src in part ≡ take (length from) from ++ drop (length from) (take (length mid - 7) (drop 7 mid)))
+    → putMid 7 (length mid - 7) mid part ≡ orderFile (pairs count src) ++ drop (7 + 2 * count) before
+file-written count src before mid part few h seven opened copied =
+    let high : count / 256 % 256 ≡ count / 256 = omega arith in
+    rw (copied, ← length-drop, take-length (drop 7 mid), take-length, drop-length, append-nil, length-take-le)
+    (rw (opened, le-ltb (length before) 7 seven, high, pairs-length, pairs-bytes, ← drop-drop))
 
 -- the whole answer, where the search's own is known; an order has as many pairs as are eligible
 pub counts-found : (P : Problem) (r : Search) (count : ℕ) (bytes : List ℕ) → r ≡ Found count → Finds (find P) r bytes → count ≡ size P

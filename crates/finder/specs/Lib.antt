@@ -1,4 +1,3 @@
 -- What is searched, and what the finder answers and writes.
 pub mod Searched  -- the book's problem, or the enlarged one
-pub mod Ranked  -- the answer of the search by corners
 pub mod Writing  -- the order file that is written

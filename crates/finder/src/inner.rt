@@ -1,6 +1,7 @@
 // Finding an order of the eligible pairs of a book that was read, or of the enlarged book, for the other crates.
-use super::search::find_by_slacks;
+use super::by_slacks::find_by_slacks;
 use slacks::PAIRS;
+use slacks::SIDE;
 use slacks::Search;
 use slacks::filling::add_idle;
 use slacks::filling::fill_slacks;
@@ -22,12 +23,13 @@ pub fn find_by(book: &[u8], n: usize, m: usize, idle: bool, buffer: &mut [u8]) -
     requires { ⌜ 7 + 2 * size (searched idle (now book)) ≤ length (now buffer) ⌝ }
     ensures { λ r. ⌜ Orders (find (searched idle (now (book .entry)))) r (now (buffer .entry)) (now (buffer .exit)) ⌝ }
 {
-    // By call, a row of `SIDE` lots: the slack of each pair.
+    // By lot: a row of `SIDE` slacks, one for each call, and the word of the calls that it is eligible for.
     let mut slacks: [u32; PAIRS] = [0; PAIRS];
-    let total = fill_slacks(book, n, m, &mut slacks);
+    let mut words: [u32; SIDE] = [0; SIDE];
+    let total = fill_slacks(book, n, m, &mut slacks, &mut words);
     if idle {
-        add_idle(&mut slacks, n, m);
-        return find_by_slacks(&slacks, n, m + 1, total + n, buffer);
+        add_idle(&mut slacks, &mut words, n, m);
+        return find_by_slacks(&slacks, words, n, m + 1, total + n, buffer);
     }
-    find_by_slacks(&slacks, n, m, total, buffer)
+    find_by_slacks(&slacks, words, n, m, total, buffer)
 }

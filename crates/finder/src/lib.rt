@@ -1,9 +1,7 @@
 // Finding an order (document 01, "Finding an order"): the free pair of lowest lot, then lowest call, is taken until none remains or none is
-// free. There are two searches: by corners, where all pairs are eligible and the costs are Monge by some ranks of lots and calls, and else by least
-// gaps. Both take the same pairs.
+// free.
+mod by_slacks;
 pub mod inner;
-mod ranked;
-mod search;
 mod writing;
 
 use slacks::Search;

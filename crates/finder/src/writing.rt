@@ -1,22 +1,9 @@
 // The order file: the pairs that are found, and the file written from them.
 ghost use mathlib.Core.Path.{_≡_};
 ghost use mathlib.Core.List.{_++_};
-ghost use Prim.Native.Nat.{_+_, _*_, _≤_, _<_};
+ghost use Prim.Native.Nat.{_+_, _*_, _≤_};
 ghost use lib.ListN.{length, drop};
 ghost use Rattle.specification.specs.OrderFile.{pairs as pairsOf, orderFile};
-ghost use Rattle.finder.specs.Writing.{Copied};
-
-// The first bytes of the source are copied into the buffer from a byte on.
-fn copy_bytes(src: &[u8], len: usize, buffer: &mut [u8], start: usize)
-    requires { ⌜ (len ≤ length (now src)) × (start + len ≤ length (now buffer)) ⌝ }
-    ensures { λ r. ⌜ Copied (now (src .entry)) len (now (buffer .entry)) start (now (buffer .exit)) ⌝ }
-{
-    let mut k = 0;
-    while k < len {
-        buffer[start + k] = src[k];
-        k += 1;
-    }
-}
 
 // The order file of the pairs whose bytes are handed over; the bytes after it keep their contents.
 pub fn write_order(buffer: &mut [u8], pairs: &[u8], count: usize)
@@ -24,5 +11,5 @@ pub fn write_order(buffer: &mut [u8], pairs: &[u8], count: usize)
     ensures { λ r. ⌜ now (buffer .exit) ≡ orderFile (pairsOf count (now (pairs .entry))) ++ drop (7 + 2 * count) (now (buffer .entry)) ⌝ }
 {
     files::write_opening(buffer, &files::ORDER_MARK, count as u16);
-    copy_bytes(pairs, 2 * count, buffer, 7);
+    bytes::copy(&pairs[0..2 * count], &mut buffer[7..]);
 }

@@ -1,4 +1,5 @@
-// Ranks of lots and calls by which the slacks of a complete book are Monge: guessed, checked, and the slacks laid out by them.
+// Lots and calls numbered anew, by ranks: where all pairs are eligible, ranks are guessed, and kept where the slacks are Monge by them. Else each
+// lot and each call has its own number as its rank.
 mod guess;
 
 use files::wide;
@@ -6,135 +7,104 @@ use guess::guess;
 use guess::one_if_below;
 use slacks::PAIRS;
 use slacks::SIDE;
+use slacks::SLACK_MOST;
 use slacks::entry_at;
 ghost use mathlib.Core.Path.{_≡_};
-ghost use mathlib.Core.Bool.{true};
-ghost use Prim.Native.Nat.{ℕ, _+_, _≤_, _<_};
+ghost use mathlib.Core.Bool.{true, false};
+ghost use Prim.Native.Nat.{ℕ, suc, _+_, _*_, _≤_, _<_};
 ghost use lib.ListN.{length, getD};
-ghost use Rattle.transport.proofs.Finder.Ranks.{Renames};
-ghost use Rattle.transport.proofs.Finder.Same.{Same};
+ghost use Rattle.transport.specs.Finder.{size};
+ghost use Rattle.transport.proofs.Finder.Ranks.{Renames, Ranked};
+ghost use Rattle.specification.specs.Costs.{costTop};
 ghost use Rattle.slacks.specs.Slacks.{bySlacks, Capped, Slacks};
-ghost use Rattle.ranks.specs.Ranked.{byRanks, MongeBy, Ranking};
-ghost use Rattle.ranks.specs.Laid.{Complete, LeadsBack, Undoes, LaidOut, FitsNext};
+ghost use Rattle.ranks.specs.Numbered.{Numbered, Lined, Plain, costBy, FitsNext};
 
-// Whether the number at x is below n and its own leads back to x.
-fn leads_back(to: &[u8; SIDE], back: &[u8; SIDE], n: usize, x: usize) -> bool
-    requires { ⌜ (n ≤ 32) × (x < n) ⌝ }
-    ensures { λ r. ⌜ (r ≡ true → LeadsBack (now (to .entry)) (now (back .entry)) n x) ⌝ }
+// A line is a lot or a call: line i is lot i, and line SIDE + j is call j.
+pub const LINES: usize = 2 * SIDE;
+
+// A number for each line: names has the lot of rank p at p and the call of rank q at SIDE + q, and ranks the rank of each line.
+pub type Lines = [u8; LINES];
+
+// What a list of lines holds for number x, of those from a line on.
+fn line_at(lines: &Lines, from: usize, x: usize) -> usize
+    requires { ⌜ (from ≤ 32) × (x < 32) ⌝ }
+    ensures { λ r. ⌜ r ≡ getD (now (lines .entry)) (from + x) 0 ⌝ }
 {
-    let y = wide(to[x]);
-    if n <= y {
-        return false;
-    }
-    wide(back[y]) == x
+    wide(lines[from + x])
 }
 
-// Whether this holds of each number below n.
-fn undoes(to: &[u8; SIDE], back: &[u8; SIDE], n: usize) -> bool
-    requires { ⌜ n ≤ 32 ⌝ }
-    ensures { λ r. ⌜ (r ≡ true → Undoes (now (to .entry)) (now (back .entry)) n) ⌝ }
+// Whether the n numbers from a line on are named anew: the names and the ranks lead back to each other.
+fn renames(names: &Lines, ranks: &Lines, from: usize, n: usize) -> bool
+    requires { ⌜ (from ≤ 32) × (n ≤ 32) ⌝ }
+    ensures { λ r. ⌜ (r ≡ true → Renames n (λ i. getD (now (ranks .entry)) (from + i) 0) (λ p. getD (now (names .entry)) (from + p) 0)) ⌝ }
 {
-    let mut x = 0;
-    while x < n {
-        if !leads_back(to, back, n, x) {
+    for x in 0..n {
+        let rank = line_at(ranks, from, x);
+        let name = line_at(names, from, x);
+        if n <= rank {
             return false;
         }
-        x += 1;
+        if n <= name {
+            return false;
+        }
+        if line_at(names, from, rank) != x {
+            return false;
+        }
+        if line_at(ranks, from, name) != x {
+            return false;
+        }
     }
     true
 }
 
-// Whether two arrays name the numbers below n anew: the ones of the ranks, and their ranks.
-fn renames(names: &[u8; SIDE], ranks: &[u8; SIDE], n: usize) -> bool
-    requires { ⌜ n ≤ 32 ⌝ }
-    ensures { λ r. ⌜ (r ≡ true → Renames n (λ i. getD (now (ranks .entry)) i 0) (λ p. getD (now (names .entry)) p 0)) ⌝ }
+// The cost of the lot of rank p and the call of rank q. A name that is not checked yet counts as its remainder, so that it is safe.
+fn cost_by(slacks: &[u32; PAIRS], names: &Lines, p: usize, q: usize) -> u32
+    requires { ⌜ Capped (now slacks) × (p < 32) × (q < 32) ⌝ }
+    ensures { λ r. ⌜ (r ≡ costBy (now (slacks .entry)) (now (names .entry)) p q) × (r ≤ suc costTop) ⌝ }
 {
-    if !undoes(names, ranks, n) {
-        return false;
-    }
-    undoes(ranks, names, n)
+    let lot = line_at(names, 0, p) % SIDE;
+    let call = line_at(names, SIDE, q) % SIDE;
+    SLACK_MOST - entry_at(slacks, lot, call)
 }
 
-// The slacks of the call of rank q are laid out.
-fn lay_call(
-    slacks: &[u32; PAIRS],
-    n: usize,
-    q: usize,
-    lots: &[u8; SIDE],
-    calls: &[u8; SIDE],
-    table: &mut [u32; PAIRS],
-    turned: &mut [u32; PAIRS],
-)
-    requires { ⌜ Capped (now slacks) × (n ≤ 32) × (q < 32) × (getD (now calls) q 0 < 32)
-        × ((p : ℕ) → p < n → getD (now lots) p 0 < 32) ⌝ }
-    requires { ⌜ LaidOut (now slacks) (now lots) (now calls) n q (now table) (now turned) ⌝ }
-    ensures { λ r. ⌜ LaidOut (now (slacks .entry)) (now (lots .entry)) (now (calls .entry)) n (q + 1) (now (table .exit)) (now (turned .exit)) ⌝ }
+// How far the cost at the call of rank q rises from the lot of rank p to the next, with the most that it can fall added.
+fn rise(slacks: &[u32; PAIRS], names: &Lines, p: usize, q: usize) -> u32
+    requires { ⌜ Capped (now slacks) × (p < 31) × (q < 32) ⌝ }
+    ensures { λ r. ⌜ r + costBy (now (slacks .entry)) (now (names .entry)) p q
+        ≡ suc costTop + costBy (now (slacks .entry)) (now (names .entry)) (p + 1) q ⌝ }
 {
-    let call = wide(calls[q]);
-    let mut p = 0;
-    while p < n {
-        let slack = entry_at(slacks, call, wide(lots[p]));
-        table[SIDE * p + q] = slack;
-        turned[SIDE * q + p] = slack;
-        p += 1;
-    }
+    SLACK_MOST + cost_by(slacks, names, p + 1, q) - cost_by(slacks, names, p, q)
 }
 
-// The slacks of all pairs are laid out by ranks, in both tables.
-fn lay_out(
-    slacks: &[u32; PAIRS],
-    n: usize,
-    m: usize,
-    lots: &[u8; SIDE],
-    calls: &[u8; SIDE],
-    table: &mut [u32; PAIRS],
-    turned: &mut [u32; PAIRS],
-)
-    requires { ⌜ Capped (now slacks) × (n ≤ 32) × (m ≤ 32)
-        × ((p : ℕ) → p < n → getD (now lots) p 0 < 32) × ((q : ℕ) → q < m → getD (now calls) q 0 < 32) ⌝ }
-    requires { ⌜ LaidOut (now slacks) (now lots) (now calls) n 0 (now table) (now turned) ⌝ }
-    ensures { λ r. ⌜ LaidOut (now (slacks .entry)) (now (lots .entry)) (now (calls .entry)) n m (now (table .exit)) (now (turned .exit)) ⌝ }
-{
-    let mut q = 0;
-    while q < m {
-        lay_call(slacks, n, q, lots, calls, table, turned);
-        q += 1;
-    }
-}
-
-// 1 where the neighbours from (p, q) on do not fit, and else 0.
-fn misfit(table: &[u32; PAIRS], p: usize, q: usize) -> u32
-    requires { ⌜ Capped (now table) × (p < 31) × (q < 31) ⌝ }
-    ensures { λ r. ⌜ (r ≤ 1) × (r ≡ 0 → FitsNext (now (table .entry)) p q) ⌝ }
-{
-    one_if_below(
-        entry_at(table, p, q) + entry_at(table, p + 1, q + 1),
-        entry_at(table, p, q + 1) + entry_at(table, p + 1, q),
-    )
-}
-
-// How many neighbours in rows p and p + 1 do not fit.
-fn misfits(table: &[u32; PAIRS], m: usize, p: usize) -> u32
-    requires { ⌜ Capped (now table) × (m ≤ 32) × (p < 31) ⌝ }
-    ensures { λ r. ⌜ (r ≡ 0 → (q : ℕ) → q + 1 < m → FitsNext (now (table .entry)) p q) ⌝ }
+// How many neighbours of ranks p and p + 1 do not fit.
+fn misfits(slacks: &[u32; PAIRS], names: &Lines, m: usize, p: usize) -> u32
+    requires { ⌜ Capped (now slacks) × (m ≤ 32) × (p < 31) ⌝ }
+    ensures { λ r. ⌜ (r ≡ 0 → (q : ℕ) → q + 1 < m → FitsNext (now (slacks .entry)) (now (names .entry)) p q) ⌝ }
 {
     let mut count: u32 = 0;
     let mut q = 0;
     while q + 1 < m {
-        count += misfit(table, p, q);
+        count += one_if_below(rise(slacks, names, p, q), rise(slacks, names, p, q + 1));
         q += 1;
     }
     count
 }
 
-// Whether the table is Monge, by its neighbours.
-fn is_monge(table: &[u32; PAIRS], n: usize, m: usize) -> bool
-    requires { ⌜ Capped (now table) × (n ≤ 32) × (m ≤ 32) ⌝ }
-    ensures { λ r. ⌜ (r ≡ true → MongeBy (now (table .entry)) n m) ⌝ }
+// Whether lots and calls are named anew, and all neighbours by their ranks fit.
+fn passes(slacks: &[u32; PAIRS], n: usize, m: usize, names: &Lines, ranks: &Lines) -> bool
+    requires { ⌜ Slacks (now slacks) n m × (n * m ≡ size (bySlacks (now slacks) n m)) × Lined (now names) (now ranks) ⌝ }
+    ensures { λ r. ⌜ (r ≡ true → Numbered n m (now (names .entry)) (now (ranks .entry)) × Ranked (bySlacks (now (slacks .entry)) n m)
+        (λ i. getD (now (ranks .entry)) i 0) (λ j. getD (now (ranks .entry)) (32 + j) 0)) ⌝ }
 {
+    if !renames(names, ranks, 0, n) {
+        return false;
+    }
+    if !renames(names, ranks, SIDE, m) {
+        return false;
+    }
     let mut p = 0;
     while p + 1 < n {
-        if 0 < misfits(table, m, p) {
+        if 0 < misfits(slacks, names, m, p) {
             return false;
         }
         p += 1;
@@ -142,32 +112,38 @@ fn is_monge(table: &[u32; PAIRS], n: usize, m: usize) -> bool
     true
 }
 
-// The lots and calls by rank, and the slacks laid out by ranks; whether they are Monge so.
+// Each lot and each call has its own number.
+fn number(lines: &mut Lines)
+    requires { ⌜ length (now lines) ≡ 64 ⌝ }
+    ensures { λ r. ⌜ (length (now (lines .exit)) ≡ 64) × Plain (now (lines .exit)) ⌝ }
+{
+    for x in 0..LINES {
+        lines[x] = (x % SIDE) as u8;
+    }
+}
+
+// Numbers the lots and the calls, of which `total` pairs are eligible: the names by rank, and the ranks. Whether the slacks are Monge by the ranks.
 pub fn rank(
     slacks: &[u32; PAIRS],
     n: usize,
     m: usize,
-    lots: &mut [u8; SIDE],
-    lot_ranks: &mut [u8; SIDE],
-    calls: &mut [u8; SIDE],
-    call_ranks: &mut [u8; SIDE],
-    table: &mut [u32; PAIRS],
-    turned: &mut [u32; PAIRS],
+    total: usize,
+    names: &mut Lines,
+    ranks: &mut Lines,
 ) -> bool
-    requires { ⌜ Slacks (now slacks) n m × Complete (now slacks) n m ⌝ }
-    requires { ⌜ (length (now table) ≡ 1024) × (length (now turned) ≡ 1024) × Capped (now table) × Capped (now turned) ⌝ }
-    ensures { λ r. ⌜ (r ≡ true → Ranking n m (now (lots .exit)) (now («lot_ranks» .exit)) (now (calls .exit)) (now («call_ranks» .exit))
-        (now (table .exit)) (now (turned .exit))
-        × Same (bySlacks (now (slacks .entry)) n m)
-        (byRanks (now (table .exit)) (now («lot_ranks» .exit)) (now («call_ranks» .exit)) n m)) ⌝ }
+    requires { ⌜ Slacks (now slacks) n m × (total ≡ size (bySlacks (now slacks) n m)) × Lined (now names) (now ranks) ⌝ }
+    ensures { λ r. ⌜ Numbered n m (now (names .exit)) (now (ranks .exit)) ⌝ }
+    ensures { λ r. ⌜ (r ≡ true → Ranked (bySlacks (now (slacks .entry)) n m)
+        (λ i. getD (now (ranks .exit)) i 0) (λ j. getD (now (ranks .exit)) (32 + j) 0)) ⌝ }
+    ensures { λ r. ⌜ (r ≡ false → Plain (now (names .exit)) × Plain (now (ranks .exit))) ⌝ }
 {
-    guess(slacks, n, m, lots, lot_ranks, calls, call_ranks);
-    if !renames(lots, lot_ranks, n) {
-        return false;
+    if total == n * m {
+        guess(slacks, n, m, names, ranks);
+        if passes(slacks, n, m, names, ranks) {
+            return true;
+        }
     }
-    if !renames(calls, call_ranks, m) {
-        return false;
-    }
-    lay_out(slacks, n, m, lots, calls, table, turned);
-    is_monge(table, n, m)
+    number(names);
+    number(ranks);
+    false
 }

@@ -129,7 +129,7 @@ fn long_search() -> [u8; 4231]
     book
 }
 
-// The same without its last pair, (31, 31), in the first 4,227 bytes: not all pairs are eligible, so that it takes the search by least gaps.
+// The same without its last pair, (31, 31), in the first 4,227 bytes: not all pairs are eligible, so that its lots are asked, and no corners decide.
 fn long_search_with_gap() -> [u8; 4231]
     ensures { λ r. ⌜ 4231 ≡ length r ⌝ }
 {
@@ -234,7 +234,7 @@ fn show_long() {
     show(b"P57", &long_search(), &mut order);
 }
 
-// The same by least gaps.
+// The same where lots are asked.
 fn show_long_with_gap() {
     let mut order = [170u8; 2060];
     let book = long_search_with_gap();

@@ -20,11 +20,11 @@ use Rattle.slacks.specs.Slacks.{remains, bySlacks, Capped, Slacks}
 
 -- a pair remains exactly where it has slack
 module _ (slacks : List ℕ) (i j : ℕ) where
-  pub remains-says : T (remains slacks i j) → 0 < entry slacks j i
-  remains-says t = positive (entry slacks j i) (λ e. T-not (eqb (entry slacks j i) 0) t (rw (eq-eqb (entry slacks j i) 0 e) tt))
+  pub remains-says : T (remains slacks i j) → 0 < entry slacks i j
+  remains-says t = positive (entry slacks i j) (λ e. T-not (eqb (entry slacks i j) 0) t (rw (eq-eqb (entry slacks i j) 0 e) tt))
 
-  pub remains-of : (entry slacks j i ≡ 0 → ⊥) → T (remains slacks i j)
-  remains-of h = not-T (eqb (entry slacks j i) 0) (λ t. h (eqb→eq (entry slacks j i) 0 t))
+  pub remains-of : (entry slacks i j ≡ 0 → ⊥) → T (remains slacks i j)
+  remains-of h = not-T (eqb (entry slacks i j) 0) (λ t. h (eqb→eq (entry slacks i j) 0 t))
 
 -- a list of zeros; as a table it is capped, and stays so
 pub zeros-at : (size x : ℕ) → getD (replicate {A = ℕ} size 0) x 0 ≡ 0
@@ -51,4 +51,4 @@ size-few {slacks} {n} {m} r =
 
 -- no pair remains at further calls
 pub none-beyond : {slacks : List ℕ} {n m : ℕ} → Slacks slacks n m → (i j : ℕ) → i < n → m ≤ j → j < 32 → remains slacks i j ≡ false
-none-beyond {slacks} r i j hi hm hj = rw (eq-eqb (entry slacks j i) 0 (r .beyond i j hi hm hj))
+none-beyond {slacks} r i j hi hm hj = rw (eq-eqb (entry slacks i j) 0 (r .beyond i j hi hm hj))

@@ -1,196 +1,194 @@
 -- Laws of filling the table of slacks from a book's rows. The costs of a lot stand behind its word, one for each set bit, so the byte of a
 -- cost grows by four with each slack that is entered; clear bits are passed over, since the table is 0 there (`Reached`). With all lots
 -- entered the table states the book's problem (`filled-same`, `filled-slacks`), and with an idle call the enlarged one (`filled-idle`).
-use mathlib.Core.Path.{_≡_, sym, _∙_, ap, subst⁻¹}
+use mathlib.Core.Path.{_≡_, sym, _∙_, ap}
 use mathlib.Core.Logic.{by-cases}
-use mathlib.Core.Bool.{true, false}
+use mathlib.Core.Bool.{true, false, true≢false}
 use mathlib.Core.List.{List}
-use Prim.Native.Nat.{ℕ, suc, _+_, _*_, _-_, _^_, _≤_, _<_}
-use native.Mathlib.Nat.{mod-eq-of-lt, lt-of-lt-of-le, add-zero}
-use native.Mathlib.Decide.{ℕ-discrete, decLt}
+use Prim.Native.Nat.{ℕ, suc, _+_, _*_, _-_, _/_, _%_, _^_, _≤_, _<_}
+use native.Mathlib.Nat.{mod-eq-of-lt, lt-of-lt-of-le}
+use native.Mathlib.Decide.{decLt}
 use native.Mathlib.Omega.{arith}
-use lib.Count.{ones, ones-ones}
-use lib.Pow.{pow-mono, pow-pos}
-use lib.ListN.{length, set, replicate, length-set, length-replicate}
+use borrow.Author.Count.{below-more}
+use lib.Count.{ones}
+use lib.Pow.{pow-mono}
+use lib.ListN.{length, getD, set, replicate, length-set, length-replicate}
 use lib.Seq.{getD-set-same, getD-set-other}
 use Rattle.transport.specs.Idle.{withIdle}
 use Rattle.transport.proofs.Finder.Same.{Same}
 use Rattle.specification.specs.Bytes.{u32At}
 use Rattle.specification.specs.Costs.{costLimit, costTop}
-use Rattle.specification.specs.Book.{bit, rowWord, rowSize, rowCost, bookVersion, bookLots, bookCalls, rowAt, rowStart, problemOf}
+use Rattle.specification.specs.Book.{bit, rowWord, rowCost, bookVersion, bookLots, bookCalls, rowAt, rowStart, problemOf}
 use Rattle.specification.specs.Idle.{enlarged}
 use Rattle.specification.proofs.Numbers.{u32-drop}
 use Rattle.specification.proofs.Rows.{RowRead}
-use Rattle.specification.proofs.Books.{BookRead, book-length}
-use Rattle.specification.proofs.Starts.{row-is, row-inside, start-next}
-use Rattle.rows.specs.Words.{onesBelow, SetFrom}
+use Rattle.specification.proofs.Books.{book-length}
+use Rattle.specification.proofs.Starts.{row-is, row-inside, start-next, cost-held}
+use Rattle.rows.specs.Words.{SetFrom}
 use Rattle.book.specs.Table.{entry, raisedAt}
-use Rattle.rows.proofs.Bits.{ones-below-none, ones-below-set, ones-below-clear, ones-below-all, bit-past, bit-first, bit-after}
-use Rattle.book.proofs.Readable.{Read, readable-is}
-use Rattle.slacks.specs.Slacks.{slackIn, bySlacks, Slacks}
-use Rattle.slacks.specs.Filling.{Entered, AtLot}
-use Rattle.slacks.proofs.BySlacks.{zeros-at, capped-zeros, capped-set}
-use Rattle.slacks.proofs.Filled.{raised-low, slack-le, stated-same, stated-idle}
+use Rattle.rows.proofs.Bits.{ones-below-none, ones-below-set, ones-below-clear, ones-below-all, bit-past, bit-below}
+use Rattle.book.proofs.Readable.{Read, read-of}
+use Rattle.words.proofs.Sets.{bit-none}
+use Rattle.slacks.specs.Slacks.{slackIn, bySlacks, Slacks, Eligible}
+use Rattle.slacks.specs.Filling.{Filled, Reached}
+use Rattle.slacks.proofs.BySlacks.{zeros-at}
+use Rattle.slacks.proofs.Filled.{raised-low, slack-le, set-slack, stated-same, stated-idle}
 
--- ---- the table, entry by entry
-module _ (book : List ℕ) where
-  pub entered-none : (slacks : List ℕ) → slacks ≡ replicate 1024 0 → Entered book 0 slacks
-  entered-none slacks e = subst⁻¹ (Entered book 0) e record {
-    passed = λ i j hj h. absurd (omega arith);
-    ahead = λ i j hi hj h. zeros-at 1024 (32 * j + i);
-    capped = capped-zeros 1024;
-    long = length-replicate {A = ℕ} 1024 0;
-  }
+-- ---- a list filled from the front
+module _ {Holds : ℕ → ℕ → Type 0} {before : List ℕ} where
+  pub filled-none : {after : List ℕ} → after ≡ before → Filled Holds 0 before after
+  filled-none e = record { passed = λ y h. absurd (omega arith); ahead = λ y h. rw e; long = rw e }
 
-  -- the slack of the pair at the entry
-  entered-one : (i j v : ℕ) (slacks : List ℕ) → Entered book (32 * i + j) slacks → i < 32 → j < 32 → v ≡ slackIn book i j
-      → Entered book (32 * i + (j + 1)) (set slacks (32 * j + i) v)
-  entered-one i j v slacks E hi hj e = record {
-    passed = λ k l hl h. by-cases (ℕ-discrete (32 * k + l) (32 * i + j))
-        (λ q. let ki : k ≡ i = omega arith in
-        let lj : l ≡ j = omega arith in
-        rw (ki, lj) (getD-set-same slacks (32 * j + i) v 0 (omega (arith, E .long)) ∙ e))
-        (λ d. getD-set-other slacks (32 * j + i) (32 * l + k) v 0 (λ q. d (omega arith)) ∙ E .passed k l hl (omega arith));
-    ahead = λ k l hk hl h.
-        getD-set-other slacks (32 * j + i) (32 * l + k) v 0 (λ q. omega arith) ∙ E .ahead k l hk hl (omega arith);
-    capped = capped-set slacks (32 * j + i) v (E .capped) (omega (arith, e, slack-le book i j)) (omega (arith, E .long));
-    long = length-set slacks (32 * j + i) v ∙ E .long;
-  }
+  module _ {x : ℕ} {after : List ℕ} (f : Filled Holds x before after) where
+    pub filled-more : (v : ℕ) → x < length before → Holds x v → Filled Holds (x + 1) before (set after x v)
+    filled-more v h holds = record {
+      passed = below-more _ _
+          (λ y l. rw (getD-set-other after x y v 0 (λ e. omega arith)) (f .passed y l))
+          (rw (getD-set-same after x v 0 (omega (arith, f .long))) holds);
+      ahead = λ y l. getD-set-other after x y v 0 (λ e. omega arith) ∙ f .ahead y (omega arith);
+      long = length-set after x v ∙ f .long;
+    }
 
-  -- pairs of one lot without slack are passed over
-  entered-past : (i j l : ℕ) (slacks : List ℕ) → Entered book (32 * i + j) slacks → i < 32 → j ≤ l → l ≤ 32
-      → ((k : ℕ) → j ≤ k → k < l → bit (rowWord (rowAt book i)) k ≡ false) → Entered book (32 * i + l) slacks
-  entered-past i j l slacks E hi le few clear = record {
-    passed = λ k a ha h. by-cases (decLt (32 * k + a) (32 * i + j))
-        (λ lt. E .passed k a ha lt)
-        (λ ge. let ki : k ≡ i = omega arith in
-        E .ahead k a (omega arith) ha (omega arith) ∙ rw (ki, clear a (omega arith) (omega arith)));
-    ahead = λ k a hk ha h. E .ahead k a hk ha (omega arith);
-    capped = E .capped;
-    long = E .long;
-  }
+    -- entries that are as they are to be
+    filled-past : (z : ℕ) → x ≤ z → ((y : ℕ) → x ≤ y → y < z → Holds y (getD before y 0)) → Filled Holds z before after
+    filled-past z le same = record {
+      passed = λ y l. by-cases (decLt y x) (f .passed y) (λ ge. rw (f .ahead y (omega arith)) (same y (omega arith) l));
+      ahead = λ y l. f .ahead y (omega arith);
+      long = f .long;
+    }
 
--- ---- one lot: its word stands at `at`, and its costs behind it
--- the calls below j are entered, and `next` is the byte of the next cost
-pub record Reached (book : List ℕ) (i at j next : ℕ) (slacks : List ℕ) : Type 0 where
-  pub bounded : j ≤ 32
-  pub next-is : next ≡ at + 4 + 4 * onesBelow (rowWord (rowAt book i)) j
-  pub entered : Entered book (32 * i + j) slacks
+-- the number of a pair has the lot and the call
+numbered : (i j : ℕ) → j < 32 → ((32 * i + j) / 32 ≡ i) × ((32 * i + j) % 32 ≡ j)
+numbered i j h = (omega arith, omega arith)
 
-module _ {book : List ℕ} {i at : ℕ} {before : List ℕ} (lot : AtLot book i at before) (lot-in : i < bookLots book) where
+-- ---- one lot
+-- the pair has a cost, and the table room for its slack
+pub record AtCost (book : List ℕ) (i j next : ℕ) (slacks : List ℕ) : Type 0 where
+  pub fits : next + 4 ≤ length book
+  pub short : next + 4 ≤ 4231
+  pub inside : 32 * i + j < 1024
+  pub low : raisedAt book next ≤ costTop
+  pub entered : Reached book i (j + 1) (next + 4) (set slacks (32 * i + j) (suc costTop - raisedAt book next))
+
+-- its word stands before its first cost
+pub word-is : {book slacks : List ℕ} {i : ℕ} (at : ℕ) → Reached book i 0 (at + 4) slacks → u32At book at ≡ rowWord (rowAt book i)
+word-is {book} {slacks} {i} at r =
+    let e : at ≡ rowStart book i + 0 = omega (arith, r .next-is, ones-below-none (rowWord (rowAt book i))) in
+    rw (e, row-is book i) (sym (u32-drop (rowStart book i) book 0))
+
+module _ {book : List ℕ} {i j next : ℕ} {slacks : List ℕ} (r : Reached book i j next slacks) (lot-in : i < bookLots book) where
   abbrev word : ℕ
   word = rowWord (rowAt book i)
 
-  read : BookRead book (readable-is book (lot .is-readable) .0)
-  read = readable-is book (lot .is-readable) .1
+  abbrev read : Read book (bookLots book) (bookCalls book)
+  read = read-of book (r .is-readable)
 
   row : RowRead (rowAt book i) (bookVersion book) (bookCalls book)
-  row = read .row i lot-in
+  row = read .known .row i lot-in
 
-  pub lot-few : i < 32
-  lot-few = omega (arith, lot-in, read .lots-within)
-
-  pub row-in : at + rowSize (rowAt book i) ≤ length book
-  row-in = omega (arith, lot .starts, row-inside read i lot-in)
-
-  pub book-short : length book ≤ 4231
-  book-short = book-length read
-
-  pub word-is : u32At book at ≡ word
-  word-is = rw (row-is book i, lot .starts) (sym (u32-drop (rowStart book i) book 0 ∙ ap (u32At book) (add-zero (rowStart book i))))
-
-  pub reached-none : Reached book i at 0 (at + 4) before
-  reached-none = record {
-    bounded = omega arith;
-    next-is = omega (arith, ones-below-none word);
-    entered = rw (add-zero (32 * i)) (lot .entered);
-  }
+  -- there is room for the lot, and the costs reached stand in the book
+  pub lot-within : (i < 32) × (bookCalls book ≤ 32) × (next ≤ length book) × (length book ≤ 4231)
+  lot-within = (
+    omega (arith, read .known .lots-within),
+    read .known .calls-within,
+    omega (arith, r .next-is, row-inside (read .known) i lot-in, ones-below-all word j),
+    book-length (read .known),
+  )
 
   -- a set bit has its cost
-  module _ {j next : ℕ} {slacks : List ℕ} (r : Reached book i at j next slacks) (set-here : bit word j ≡ true) where
-    pub cost-in : next + 4 ≤ length book
-    cost-in = omega (arith, r .next-is, row-in, ones-below-set word j set-here, ones-below-all word (j + 1))
-
-    cost-is : u32At book next ≡ rowCost (rowAt book i) j
-    cost-is =
-        let e : next ≡ rowStart book i + (4 + 4 * onesBelow word j) = omega (arith, r .next-is, lot .starts) in
-        rw e (sym (u32-drop (rowStart book i) book (4 + 4 * onesBelow word j))
-        ∙ ap (λ (s : List ℕ). u32At s (4 + 4 * onesBelow word j)) (sym (row-is book i)))
-
-    pub cost-low : raisedAt book next ≤ costTop
-    cost-low = rw cost-is (raised-low row j set-here)
-
-    pub reached-one : j < 32 → Reached book i at (j + 1) (next + 4) (set slacks (32 * j + i) (suc costTop - raisedAt book next))
-    reached-one hj = record {
-      bounded = omega arith;
-      next-is = omega (arith, r .next-is, ones-below-set word j set-here);
-      entered = entered-one book i j _ slacks (r .entered) lot-few hj (rw (cost-is, set-here));
-    }
-
-  -- clear bits have none
-  pub reached-past : {j next : ℕ} {slacks : List ℕ} (l : ℕ) → Reached book i at j next slacks → j ≤ l → l ≤ 32
-      → ((k : ℕ) → j ≤ k → k < l → bit word k ≡ false) → Reached book i at l next slacks
-  reached-past {j} {next} {slacks} l r le few clear = record {
-    bounded = few;
-    next-is =
-        let up : j + (l - j) ≡ l = omega arith in
-        omega (arith, r .next-is, rw up at (ones-below-clear word j (l - j) (λ k a b. clear k a (omega arith))));
-    entered = entered-past book i j l slacks (r .entered) lot-few le few clear;
-  }
-
-  -- up to the next set bit
-  pub reached-to : {j next l : ℕ} {slacks : List ℕ} → Reached book i at j next slacks → SetFrom word j l → Reached book i at l next slacks
-  reached-to {j} {next} {l} r from = reached-past l r (from .not-below (r .bounded)) (from .within) (from .clear)
-
-  -- with all 32 bits passed, `next` is where the next row starts
-  pub reached-all : {next : ℕ} {slacks : List ℕ} → Reached book i at 32 next slacks → AtLot book (i + 1) next slacks
-  reached-all {next} {slacks} r =
-      let last : 32 * i + 32 ≡ 32 * (i + 1) = omega arith in
-      let few = lt-of-lt-of-le (row .word-below) (pow-mono (read .calls-within)) in
+  pub at-cost : bit word j ≡ true → AtCost book i j next slacks
+  at-cost set-here =
+      let known = lot-within in
+      let few : j < 32 = omega (arith, bit-below word j (bookCalls book) set-here (row .word-below)) in
+      let grown = ones-below-set word j set-here in
+      let fits : next + 4 ≤ length book = omega (arith, r .next-is, row-inside (read .known) i lot-in, ones-below-all word (j + 1)) in
+      let held : u32At book next ≡ rowCost (rowAt book i) j = rw (r .next-is) (cost-held book i j) in
+      let (q, s) = numbered i j few in
+      let up : 32 * i + j + 1 ≡ 32 * i + (j + 1) = omega arith in
       record {
-        is-readable = lot .is-readable;
-        starts = omega (arith, r .next-is, start-next book i, lot .starts, ap ones (mod-eq-of-lt few));
-        entered = rw last at (r .entered);
+        fits = fits;
+        short = omega arith;
+        inside = omega arith;
+        low = rw held (raised-low row j set-here);
+        entered = record {
+          is-readable = r .is-readable;
+          bounded = omega arith;
+          next-is = omega (arith, r .next-is);
+          entered = rw up at (filled-more (r .entered) (suc costTop - raisedAt book next)
+              (omega (arith, length-replicate {A = ℕ} 1024 0)) (rw (q, s, held, set-here)));
+        };
       }
 
-  -- a word of all m calls: the lowest m bits are set, and no other
-  module _ (m : ℕ) (full : u32At book at ≡ 2 ^ m - 1) where
-    all-ones : ones word ≡ m
-    all-ones = ap ones (sym word-is ∙ full) ∙ ones-ones m
+  -- clear bits have none
+  passed-over : (l : ℕ) → j ≤ l → l ≤ 32 → ((k : ℕ) → j ≤ k → k < l → bit word k ≡ false)
+      → Filled (λ x slack. slack ≡ slackIn book (x / 32) (x % 32)) (32 * i + l) (replicate 1024 0) slacks
+  passed-over l le few clear = filled-past (r .entered) (32 * i + l) (omega arith) (λ y h h′.
+      let q : y / 32 ≡ i = omega arith in
+      rw (zeros-at 1024 y, q, clear (y % 32) (omega arith) (omega arith)))
 
-    first : word < 2 ^ ones word
-    first = rw (all-ones, ← word-is, full) (omega (arith, pow-pos m))
+  -- up to the next set bit
+  pub reached-to : {l : ℕ} → SetFrom word j l → Reached book i l next slacks
+  reached-to {l} from =
+      let le = from .not-below (r .bounded) in
+      let up : j + (l - j) ≡ l = omega arith in
+      record {
+        is-readable = r .is-readable;
+        bounded = from .within;
+        next-is = omega (arith, r .next-is, rw up at (ones-below-clear word j (l - j) (λ k a b. from .clear k a (omega arith))));
+        entered = passed-over l le (from .within) (from .clear);
+      }
 
-    pub set-first : (j : ℕ) → j < m → bit word j ≡ true
-    set-first j h = bit-first word first j (omega (arith, all-ones))
-
-    pub clear-after : (j : ℕ) → m ≤ j → bit word j ≡ false
-    clear-after j h = bit-after word first j (omega (arith, all-ones))
+  -- with all calls passed, `next` is where the next row starts
+  pub reached-all : bookCalls book ≤ j → Reached book (i + 1) 0 (next + 4) slacks
+  reached-all h =
+      let last : 32 * i + 32 ≡ 32 * (i + 1) + 0 = omega arith in
+      let below : (k : ℕ) → j ≤ k → word < 2 ^ k = λ k l. lt-of-lt-of-le (row .word-below) (pow-mono (omega arith)) in
+      record {
+        is-readable = r .is-readable;
+        bounded = omega arith;
+        next-is = omega (arith, r .next-is, start-next book i, ones-below-none (rowWord (rowAt book (i + 1))), ap ones (mod-eq-of-lt (below j (omega arith))));
+        entered = rw last at (passed-over 32 (r .bounded) (omega arith) (λ k l l′. bit-past word k (below k l)));
+      }
 
 -- ---- all lots
-module _ {book : List ℕ} {n m : ℕ} (r : Read book n m) (slacks : List ℕ) (all : Entered book (32 * n) slacks) where
+module _ {book : List ℕ} {n m next : ℕ} {slacks : List ℕ} (r : Read book n m) (all : Reached book n 0 next slacks) where
   few-calls : m ≤ 32
   few-calls = omega (arith, r .calls-is, r .known .calls-within)
 
-  slack-at : (i j : ℕ) → i < n → j < 32 → entry slacks j i ≡ slackIn book i j
-  slack-at i j hi hj = all .passed i j hj (omega arith)
+  row-of : (i : ℕ) → i < n → RowRead (rowAt book i) (bookVersion book) (bookCalls book)
+  row-of i hi = r .known .row i (omega (arith, r .lots-is))
 
-  slack-here : (i j : ℕ) → i < n → j < m → entry slacks j i ≡ slackIn book i j
+  slack-at : (i j : ℕ) → i < n → j < 32 → entry slacks i j ≡ slackIn book i j
+  slack-at i j hi hj =
+      let (q, s) = numbered i j hj in
+      rw (q, s) at (all .entered .passed (32 * i + j) (omega arith))
+
+  slack-here : (i j : ℕ) → i < n → j < m → entry slacks i j ≡ slackIn book i j
   slack-here i j hi hj = slack-at i j hi (omega (arith, few-calls))
 
   pub filled-same : Same (problemOf book) (bySlacks slacks n m)
-  filled-same = stated-same r (λ i j. entry slacks j i) slack-here
+  filled-same = stated-same r (entry slacks) slack-here
 
   pub filled-idle : Same (enlarged book) (withIdle costLimit (bySlacks slacks n m))
-  filled-idle = stated-idle r (λ i j. entry slacks j i) slack-here
+  filled-idle = stated-idle r (entry slacks) slack-here
 
   pub filled-slacks : Slacks slacks n m
   filled-slacks = record {
     lots-few = omega (arith, r .lots-is, r .known .lots-within);
     calls-few = few-calls;
-    capped = all .capped;
-    beyond = λ i j hi hm hj.
-        let row = r .known .row i (omega (arith, r .lots-is)) in
-        slack-at i j hi hj ∙ rw (bit-past (rowWord (rowAt book i)) j (lt-of-lt-of-le (row .word-below) (pow-mono (omega (arith, r .calls-is)))));
-    long = all .long;
+    capped = λ x. by-cases (decLt x (32 * n))
+        (λ h. omega (arith, all .entered .passed x (omega arith), slack-le book (x / 32) (x % 32)))
+        (λ h. omega (arith, all .entered .ahead x (omega arith), zeros-at 1024 x));
+    beyond = λ i j hi hm hj. slack-at i j hi hj ∙ rw (bit-past (rowWord (rowAt book i)) j (lt-of-lt-of-le (row-of i hi .word-below) (pow-mono (omega (arith, r .calls-is)))));
+    long = all .entered .long ∙ length-replicate {A = ℕ} 1024 0;
+  }
+
+  -- the words are those of the book's rows
+  pub filled-words : {words : List ℕ} → Filled (λ i word. word ≡ rowWord (rowAt book i)) n (replicate 32 0) words → Eligible slacks n m words
+  filled-words {words} f = record {
+    each = λ i j hi hj. rw (f .passed i hi, slack-here i j hi hj) (set-slack book i j (row-of i hi));
+    inside = λ i j t. by-cases (decLt i n)
+        (λ hi. (hi, omega (arith, r .calls-is, bit-below (rowWord (rowAt book i)) j (bookCalls book) (rw (f .passed i hi) at t) (row-of i hi .word-below))))
+        (λ h. absurd (true≢false (sym t ∙ rw (f .ahead i (omega arith), zeros-at 32 i) (bit-none j))));
+    long = f .long ∙ length-replicate {A = ℕ} 32 0;
   }

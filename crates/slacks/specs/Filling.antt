@@ -1,23 +1,22 @@
--- What a book's rows make of a table of slacks, row by row.
+-- How a table of slacks, and the lots' words, are filled from the front.
 use mathlib.Core.Path.{_≡_}
 use mathlib.Core.Bool.{true}
 use mathlib.Core.List.{List}
-use Prim.Native.Nat.{ℕ, _+_, _*_, _≤_, _<_}
-use lib.ListN.{length}
-use Rattle.specification.specs.Book.{rowStart}
+use Prim.Native.Nat.{ℕ, _+_, _*_, _/_, _%_, _≤_, _<_}
+use lib.ListN.{length, getD, replicate}
+use Rattle.specification.specs.Book.{costStart}
 use Rattle.book.specs.Pairs.{readable}
-use Rattle.book.specs.Table.{entry}
-use Rattle.slacks.specs.Slacks.{slackIn, Capped}
+use Rattle.slacks.specs.Slacks.{slackIn}
 
--- by lot and then by call, the slacks of the pairs before number x stand in the table, and no others
-pub record Entered (book : List ℕ) (x : ℕ) (slacks : List ℕ) : Type 0 where
-  pub passed : (i j : ℕ) → j < 32 → 32 * i + j < x → entry slacks j i ≡ slackIn book i j
-  pub ahead : (i j : ℕ) → i < 32 → j < 32 → x ≤ 32 * i + j → entry slacks j i ≡ 0
-  pub capped : Capped slacks
-  pub long : length slacks ≡ 1024
+-- the entries before number x are as they are to be, and the others as they were
+pub record Filled (Holds : ℕ → ℕ → Type 0) (x : ℕ) (before after : List ℕ) : Type 0 where
+  pub passed : (y : ℕ) → y < x → Holds y (getD after y 0)
+  pub ahead : (y : ℕ) → x ≤ y → getD after y 0 ≡ getD before y 0
+  pub long : length after ≡ length before
 
--- the lots before lot i of a readable book are entered, and the row of lot i starts at a byte
-pub record AtLot (book : List ℕ) (i at : ℕ) (slacks : List ℕ) : Type 0 where
+-- of a readable book, lot by lot, the slacks of the pairs before (i, j) stand in a table of zeros, and `next` is the byte of the next cost
+pub record Reached (book : List ℕ) (i j next : ℕ) (slacks : List ℕ) : Type 0 where
   pub is-readable : readable book ≡ true
-  pub starts : at ≡ rowStart book i
-  pub entered : Entered book (32 * i) slacks
+  pub bounded : j ≤ 32
+  pub next-is : next ≡ costStart book i j
+  pub entered : Filled (λ x slack. slack ≡ slackIn book (x / 32) (x % 32)) (32 * i + j) (replicate 1024 0) slacks

@@ -1,5 +1,5 @@
 // What the searches for an order share. They go through a table of slacks: how far a pair's cost lies below one more than the limit, at `SIDE` times
-// call plus lot, and 0 where the pair is not eligible. They answer with the bytes of the pairs that they found.
+// lot plus call, and 0 where the pair is not eligible. They answer with the bytes of the pairs that they found.
 pub mod filling;
 
 use specification::COST_LIMIT;

@@ -76,7 +76,7 @@ including-is w j = record {
     all false = refl
 
 -- a number that is left of a word is not the one taken out, and was in it
-pub not-lost : {word j after : ℕ} → Without word j after → (l : ℕ) → bit after l ≡ true → l ≡ j → ⊥
+not-lost : {word j after : ℕ} → Without word j after → (l : ℕ) → bit after l ≡ true → l ≡ j → ⊥
 not-lost {word} {j} {after} w l e z = true≢false (sym e ∙ subst⁻¹ (λ (x : ℕ). bit after x ≡ false) z (w .out))
 
 pub was-in : {word j after : ℕ} → Without word j after → (l : ℕ) → bit after l ≡ true → bit word l ≡ true

@@ -24,10 +24,6 @@ pub record Minus (word other after : ℕ) : Type 0 where
   pub each : (l : ℕ) → bit after l ≡ (bit word l && not (bit other l))
   pub some : 0 < after → (l : ℕ) × LowestIn after l × (l < 32)
 
--- the numbers in both words
-pub record Both (a b after : ℕ) : Type 0 where
-  pub each : (l : ℕ) → bit after l ≡ (bit a l && bit b l)
-
 -- the numbers in either word
 pub record Either (a b after : ℕ) : Type 0 where
   pub each : (l : ℕ) → bit after l ≡ (bit a l || bit b l)

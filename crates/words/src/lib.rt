@@ -1,7 +1,7 @@
 // Words of lots or calls: a number below 32 is in a word where that bit of it is set.
 ghost use mathlib.Core.Bool.{true};
 ghost use Prim.Native.Nat.{_<_};
-ghost use Rattle.words.specs.Words.{LowestIn, HighestIn, Below, Without, Minus, Both, Either, IncludingIf};
+ghost use Rattle.words.specs.Words.{LowestIn, HighestIn, Below, Without, Minus, Either, IncludingIf};
 
 // The lowest number in a word.
 pub fn lowest(word: u32) -> usize
@@ -34,13 +34,6 @@ pub fn minus(word: u32, other: u32) -> u32
     ensures { λ r. ⌜ Minus word other r ⌝ }
 {
     word ^ (word & other)
-}
-
-// The numbers in both words.
-pub fn both(a: u32, b: u32) -> u32
-    ensures { λ r. ⌜ Both a b r ⌝ }
-{
-    a & b
 }
 
 // The numbers in either word.

@@ -1,55 +1,44 @@
--- `ranks::rank` meets its contract: where all checks pass, the ranks are as `ranking-of` says.
-use mathlib.Core.Path.{sym}
+-- `ranks::rank` meets its contract: the ranks are checked, or plain numbers.
+use mathlib.Core.Path.{sym, _∙_, ap}
+use mathlib.Core.Logic.{⊎-elim}
+use native.Mathlib.Nat.{mul-le-mul}
 use native.Mathlib.Omega.{arith}
 use borrow.Author.Needs.{needs}
-use borrow.Author.Tests.{not-false}
-use Rattle.transport.proofs.Laws.Tests.{F-of}
-use Rattle.ranks.proofs.Laying.{laid-none, ranking-of}
+use lib.ListN.{length}
+use Rattle.transport.proofs.Laws.Tests.{T-of}
+use Rattle.ranks.proofs.Ranking.{plain-numbered}
 use Rattle.ranks.proofs.rank.Statement.{statement}
 use Rattle.ranks.proofs.rank.Tie as tie
 
-returns : tie.Need-returns
-returns c = λ e. absurd (F-of (sym e) tt)
+passes-requires : tie.Need-passes-requires
+passes-requires c κs =
+    let first = c .before .before .before .before .before in
+    (first .before .pre .0, sym (first .if1 .taken) ∙ first .before .pre .1, c .before .before .guess .ensures)
+
+number-requires : tie.Need-number-requires
+number-requires c κs = let b = c .before in
+    ⊎-elim (λ w. ap length (w .8) ∙ w .3 .ensures .0) (λ w. ap length (w .1) ∙ b .before .pre .2 .0) (b .if1 .came)
+
+number-requires-2 : tie.Need-number-requires-2
+number-requires-2 c κs = let b = c .before .before .before in
+    ⊎-elim (λ w. ap length (w .9) ∙ w .3 .ensures .1) (λ w. ap length (w .2) ∙ b .before .pre .2 .1) (b .if1 .came)
 
 returns-2 : tie.Need-returns-2
-returns-2 c = λ e. absurd (F-of (sym e) tt)
-
-lay-out-requires : tie.Need-lay-out-requires
-lay-out-requires c κs =
-    let passed = c .before .before .before .before in
-    let first = passed .before .before .before .before in
-    let p = first .before .before .before .before .before .before .before .before .before .pre in
-    let s = p .0 .0 in
-    let byLot = first .before .renames .ensures (not-false _ (first .if1 .left)) in
-    let byCall = passed .before .renames2 .ensures (not-false _ (passed .if2 .left)) in (
-      (
-        s .capped,
-        s .lots-few,
-        s .calls-few,
-        λ k h. omega (arith, byLot .at-below k h, s .lots-few),
-        λ k h. omega (arith, byCall .at-below k h, s .calls-few),
-      ),
-      laid-none (p .1 .2) (p .1 .3) (p .1 .0) (p .1 .1),
+returns-2 c =
+    let first = c .before .before .number .ensures in
+    let second = c .number2 .ensures in (
+      plain-numbered (c .before .before .before .before .before .pre .0) (first .0, second .0) (first .1) (second .1),
+      ((λ e. absurd (T-of e)), λ e. (first .1, second .1)),
     )
-
-returns-3 : tie.Need-returns-3
-returns-3 c =
-    λ e.
-    let passed = c .before .before .before .before .before .before .before in
-    let first = passed .before .before .before .before in
-    let p = first .before .before .before .before .before .before .before .before .before .pre .0 in
-    ranking-of (p .0) (p .1) (first .before .renames .ensures (not-false _ (first .if1 .left)))
-    (passed .before .renames2 .ensures (not-false _ (passed .if2 .left))) (c .before .before .lay-out .ensures) (c .is-monge .ensures e)
 
 pub rank-spec : {M : Type 1} → statement M
 rank-spec =
     tie.close
     (tie.spec
+    (λ c. record { fits = omega (arith, mul-le-mul (c .pre .0 .lots-few) (c .pre .0 .calls-few)) })
     (λ c κs. search needs)
-    (λ c κs. search needs)
-    returns
-    (λ c κs. search needs)
-    returns-2
-    lay-out-requires
-    (λ c κs. search needs)
-    returns-3)
+    passes-requires
+    (λ c. let both = c .before .passes .ensures (c .if2 .taken) in (both .0, ((λ e. both .1), λ e. absurd (T-of (sym e)))))
+    number-requires
+    number-requires-2
+    returns-2)

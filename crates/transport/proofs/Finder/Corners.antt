@@ -2,11 +2,11 @@
 -- lower, (i, j) fits with (k, l) by the ranks alone. For k higher and l lower it fits exactly when the excess of that rectangle, which is
 -- never negative, is 0; a wider rectangle has no less, so the widest decides: to the last lot of the call and the first call of the lot.
 -- So for k lower and l higher.
-use mathlib.Core.Path.{_≡_, subst⁻¹}
-use mathlib.Core.Logic.{_↔_, by-cases}
+use mathlib.Core.Path.{_≡_}
+use mathlib.Core.Logic.{_↔_}
 use mathlib.Core.Bool.{Bool, _&&_}
 use Prim.Native.Nat.{ℕ, _+_, _≤_, _<_}
-use native.Mathlib.Decide.{decLe, decLt}
+use native.Mathlib.Decide.{decLe}
 use native.Mathlib.Omega.{arith}
 use lib.Dec.{T}
 use Rattle.transport.specs.Problem.{Problem}
@@ -15,7 +15,7 @@ use Rattle.transport.proofs.Laws.Tests.{T-ext, and-says, and-of}
 use Rattle.transport.proofs.Laws.Sets.{Remains}
 use Rattle.transport.proofs.Orders.Monge.{Fits}
 use Rattle.transport.proofs.Finder.Free.{Free, fits-says, fits-of, free-says, free-of}
-use Rattle.transport.proofs.Finder.Ranks.{Renames, Ranked, ranked-fits}
+use Rattle.transport.proofs.Finder.Ranks.{Ranked, ranked-fits}
 
 -- of the numbers that are in a set, the one of least rank and the one of greatest
 pub record Ends (rank : ℕ → ℕ) (In : ℕ → Type 0) (low high : ℕ) : Type 0 where
@@ -23,24 +23,6 @@ pub record Ends (rank : ℕ → ℕ) (In : ℕ → Type 0) (low high : ℕ) : Ty
   pub high-in : In high
   pub least : (k : ℕ) → In k → rank low ≤ rank k
   pub greatest : (k : ℕ) → In k → rank k ≤ rank high
-
--- the numbers below n listed by rank: the ends are the first and the last of the list that are in the set
-pub ends-by-rank : {n : ℕ} {rank at : ℕ → ℕ} → Renames n rank at → {In : ℕ → Type 0} → ((k : ℕ) → In k → k < n)
-    → {low high : ℕ} → low < n → high < n → In (at low) → In (at high)
-    → ((q : ℕ) → q < low → In (at q) → ⊥) → ((q : ℕ) → high < q → q < n → In (at q) → ⊥) → Ends rank In (at low) (at high)
-ends-by-rank {n} {rank} {at} names {In} below {low} {high} hl hh low-in high-in none-before none-after = record {
-  low-in = low-in;
-  high-in = high-in;
-  least = λ k in-k. by-cases (decLt (rank k) low)
-      (λ h. absurd (none-before (rank k) h (back k in-k)))
-      (λ h. omega (arith, names .rank-at low hl));
-  greatest = λ k in-k. by-cases (decLt high (rank k))
-      (λ h. absurd (none-after (rank k) h (names .rank-below k (below k in-k)) (back k in-k)))
-      (λ h. omega (arith, names .rank-at high hh));
-}
-  where
-    back : (k : ℕ) → In k → In (at (rank k))
-    back k in-k = subst⁻¹ In (names .at-rank k (below k in-k)) in-k
 
 -- the ends of a lot are calls, of a call lots
 abbrev pub LotEnds : Problem → (ℕ → ℕ) → (ℕ → ℕ → Bool) → ℕ → ℕ → ℕ → Type 0
@@ -79,7 +61,7 @@ module _ {P : Problem} {r s : ℕ → ℕ} (ranked : Ranked P r s) (rest : ℕ �
       )
 
   -- the two corners: (i, j) is free exactly when it fits with the last lot and first call, and with the first lot and last call
-  free-iff-corners : Free P rest i j ↔ (Fits P i j bottom first × Fits P i j top last)
+  pub free-iff-corners : Free P rest i j ↔ (Fits P i j bottom first × Fits P i j top last)
   free-iff-corners = (
     λ f. (f bottom first (row .low-in) (column .high-in), f top last (row .high-in) (column .low-in)),
     λ (low, high) k l il kj. record {

@@ -6,9 +6,9 @@ use Prim.Native.Nat.{ℕ, zero, suc, _+_, _≤_, _<_}
 use native.Mathlib.Nat.{eq-or-lt-of-le}
 use native.Mathlib.Numerals.{add-one}
 use native.Mathlib.Omega.{arith}
-use lib.Dec.{T, eqb, eqb→eq, eqb-refl}
+use lib.Dec.{T}
 use Rattle.transport.specs.Problem.{Problem}
-use Rattle.transport.proofs.Laws.Tests.{T-ext, below-suc}
+use Rattle.transport.proofs.Laws.Tests.{below-suc}
 
 -- in a table of n rows and m columns: of two rows and two columns, the corners on the main diagonal are no more than the other two
 abbrev pub MongeTable : (ℕ → ℕ → ℕ) → ℕ → ℕ → Type 0
@@ -48,11 +48,6 @@ pub record Renames (n : ℕ) (rank at : ℕ → ℕ) : Type 0 where
 module _ {n : ℕ} {rank at : ℕ → ℕ} (names : Renames n rank at) where
   pub rank-apart : (i k : ℕ) → i < n → k < n → rank i ≡ rank k → i ≡ k
   rank-apart i k hi hk e = sym (names .at-rank i hi) ∙ ap at e ∙ names .at-rank k hk
-
-  pub eqb-ranks : (i k : ℕ) → i < n → k < n → eqb (rank i) (rank k) ≡ eqb i k
-  eqb-ranks i k hi hk = T-ext (eqb (rank i) (rank k)) (eqb i k)
-      (λ t. rw (rank-apart i k hi hk (eqb→eq (rank i) (rank k) t)) (eqb-refl k))
-      (λ t. rw (eqb→eq i k t) (eqb-refl (rank k)))
 
 -- a complete problem, in which no two lots and no two calls have the same rank, and whose costs are Monge by the ranks
 pub record Ranked (P : Problem) (r s : ℕ → ℕ) : Type 0 where

@@ -17,7 +17,7 @@ use Rattle.finder.proofs.inner.find_by.Statement.{statement}
 use Rattle.finder.proofs.inner.find_by.Tie as tie
 
 abbrev start : tie.After-fill-slacks → tie.Start
-start c = c .before .before .before .before
+start c = c .before .before .before .before .before
 
 abbrev book : tie.After-fill-slacks → List ℕ
 book c = start c .args .book .now
@@ -28,31 +28,33 @@ stated c = bySlacks (c .fill-slacks .last .1 .1 .1 .0) (start c .args .n) (start
 
 add-idle-requires : tie.Need-add-idle-requires
 add-idle-requires c κs =
-    let f = c .before .before in
-    (f .fill-slacks .ensures .1 .1 .0, start f .pre .1 .0 (c .before .if1 .taken))
+    let f = c .before .before .before in
+    let r = f .fill-slacks .ensures .1 .1 in
+    (r .0, r .1, start f .pre .1 .0 (c .before .before .if1 .taken))
 
 -- with the idle call's slacks the table states the enlarged problem
 module _ (c : tie.After-add-idle) where
   abbrev filled : tie.After-fill-slacks
-  filled = c .before .before .before
+  filled = c .before .before .before .before
 
   abbrev enlarged : Problem
   enlarged = bySlacks (c .add-idle .last .0) (start filled .args .n) (start filled .args .m + 1)
 
   same-idle : Same (searched (start filled .args .idle) (book filled)) enlarged
-  same-idle = subst⁻¹ (λ (b : Bool). Same (searched b (book filled)) enlarged) (c .before .before .if1 .taken)
+  same-idle = subst⁻¹ (λ (b : Bool). Same (searched b (book filled)) enlarged) (c .before .before .before .if1 .taken)
       (same-trans (filled .fill-slacks .ensures .1 .0) (c .add-idle .ensures .0))
 
   total-is : filled .fill-slacks .result + start filled .args .n ≡ size enlarged
-  total-is = omega (arith, filled .fill-slacks .ensures .1 .1 .1, idle-size costLimit (stated filled), size-of-same (c .add-idle .ensures .0))
+  total-is = omega (arith, filled .fill-slacks .ensures .1 .1 .2, idle-size costLimit (stated filled), size-of-same (c .add-idle .ensures .0))
 
   few : size enlarged ≤ 1024
-  few = size-few (c .add-idle .ensures .1)
+  few = size-few (c .add-idle .ensures .1 .0)
 
 find-by-slacks-requires : tie.Need-find-by-slacks-requires
 find-by-slacks-requires c κs =
     let a = c .before .before in
-    (a .add-idle .ensures .1, total-is a, omega (arith, start (filled a) .pre .1 .1, total-is a, size-of-same (same-idle a)))
+    let r = a .add-idle .ensures .1 in
+    (r .0, r .1, total-is a, omega (arith, start (filled a) .pre .1 .1, total-is a, size-of-same (same-idle a)))
 
 returns : tie.Need-returns
 returns c = rw (find-of-same (same-idle (c .before .before .before .before .before))) (c .before .before .find-by-slacks .ensures)
@@ -66,7 +68,7 @@ find-by-slacks-requires-2 : tie.Need-find-by-slacks-requires-2
 find-by-slacks-requires-2 c κs =
     let e = c .before .before in
     let r = e .before .fill-slacks .ensures .1 .1 in
-    (r .0, r .1, omega (arith, start (e .before) .pre .1 .1, r .1, size-of-same (same-plain e)))
+    (r .0, r .1, r .2, omega (arith, start (e .before) .pre .1 .1, r .2, size-of-same (same-plain e)))
 
 returns-2 : tie.Need-returns-2
 returns-2 c = rw (find-of-same (same-plain (c .before .before .before .before .before))) (c .before .before .find-by-slacks2 .ensures)

@@ -1,45 +1,68 @@
--- `slacks::filling::fill_slacks` meets its contract. The invariant: the lots below i are entered, and `at` is where the row of lot i starts. All lots
--- entered state the book's problem (`filled-same`, `filled-idle`).
-use mathlib.Core.Path.{_≡_, refl, sym, _∙_}
-use Prim.Native.Nat.{_-_, _≤_}
+-- `slacks::filling::fill_slacks` meets its contract. The invariant: the lots below i are entered, with their words, and `at` is where the row of
+-- lot i starts. All lots entered state the book's problem (`filled-same`, `filled-idle`).
+use mathlib.Core.Path.{_≡_, sym, _∙_}
+use Prim.Native.Nat.{ℕ, _+_, _-_, _≤_, _<_}
 use native.Mathlib.Omega.{arith}
+use lib.ListN.{length, replicate, length-replicate}
 use Rattle.transport.proofs.Finder.Same.{size-of-same}
-use Rattle.specification.specs.Book.{rowStart}
+use Rattle.specification.specs.Book.{rowWord, rowAt, rowStart, bookLots}
+use Rattle.rows.proofs.Bits.{ones-below-none}
 use Rattle.book.proofs.Readable.{Read, counts-are}
-use Rattle.slacks.specs.Filling.{AtLot}
-use Rattle.slacks.proofs.Entering.{entered-none, filled-same, filled-idle, filled-slacks}
+use Rattle.slacks.specs.Filling.{Filled, Reached}
+use Rattle.slacks.proofs.Entering.{filled-none, filled-more, word-is, lot-within, filled-same, filled-idle, filled-slacks, filled-words}
 use Rattle.slacks.proofs.filling.fill_slacks.Statement.{statement}
 use Rattle.slacks.proofs.filling.fill_slacks.Tie as tie
 
 abbrev Inv-loop : tie.InvT-loop
-Inv-loop book n m slacks₀ all at₀ i₀ slacks at i = (i ≤ n) × AtLot book i at slacks
+Inv-loop book n m slacks₀ words₀ all at₀ i₀ slacks words at i =
+    (i ≤ n) × Reached book i 0 (at + 4) slacks × Filled (λ k word. word ≡ rowWord (rowAt book k)) i (replicate 32 0) words
 
 abbrev μ-loop : tie.MeasureT-loop
-μ-loop book n m slacks₀ all at₀ i₀ slacks at i = n - i
+μ-loop book n m slacks₀ words₀ all at₀ i₀ slacks words at i = n - i
 
 read : (s : tie.Start Inv-loop μ-loop) → Read (s .args .book .now) (s .args .n) (s .args .m)
 read s = counts-are _ (sym (s .pre .0))
 
-few : (s : tie.Start Inv-loop μ-loop) → s .args .m ≤ 32
-few s = omega (arith, read s .calls-is, read s .known .calls-within)
-
-all-calls-requires : tie.Need-all-calls-requires Inv-loop μ-loop
-all-calls-requires c κs = few (c .before)
-
 loop-holds : tie.Need-loop-holds Inv-loop μ-loop
 unfolding rowStart
 loop-holds c =
-    let s = c .before .before in
-    (omega arith, record { is-readable = read s .is-readable; starts = refl; entered = entered-none _ _ (s .pre .1) })
+    let s = c .before .before in (
+      omega arith,
+      record {
+        is-readable = read s .is-readable;
+        bounded = omega arith;
+        next-is = omega (arith, ones-below-none (rowWord (rowAt (s .args .book .now) 0)));
+        entered = filled-none (s .pre .1);
+      },
+      filled-none (s .pre .2),
+    )
+
+-- the lot that the loop is at is in the book
+module _ (c : tie.In-loop Inv-loop μ-loop) where
+  abbrev start : tie.Start Inv-loop μ-loop
+  start = c .before .before .before .before
+
+  lot-in : c .before .loop .i < bookLots (start .args .book .now)
+  lot-in = omega (arith, read start .lots-is, c .loop-test .taken)
+
+  room : (c .before .loop .i < 32) × (c .before .loop .at + 4 ≤ length (start .args .book .now))
+  room = let known = lot-within (c .before .loop .inv .1) lot-in in (known .0, known .2)
 
 enter-lot-requires : tie.Need-enter-lot-requires Inv-loop μ-loop
 enter-lot-requires c κs =
-    let l = c .before .before in
-    let s = l .before .before .before in
-    (l .loop .inv .1, omega (arith, read s .lots-is, c .before .loop-test .taken), few s, l .before .all-calls .ensures)
+    let t = c .before .before in
+    let l = t .before in
+    let reached = l .loop .inv .1 in
+    (reached, lot-in t, read (start t) .calls-is, c .before .cost-at .ensures ∙ word-is _ reached, l .before .all-calls .ensures)
 
 loop-again : tie.Need-loop-again Inv-loop μ-loop
-loop-again c = (omega arith, c .enter-lot .ensures)
+loop-again c =
+    let (_, reached, words) = c .before .before .before .before .loop .inv in (
+      omega arith,
+      c .enter-lot .ensures,
+      filled-more words _ (omega (arith, room (c .before .before .before), length-replicate {A = ℕ} 32 0))
+          (c .before .before .cost-at .ensures ∙ word-is _ reached),
+    )
 
 pair-count-requires : tie.Need-pair-count-requires Inv-loop μ-loop
 pair-count-requires c κs = let r = read (c .before .before .before .before) in (r .is-readable, r .lots-is)
@@ -48,10 +71,11 @@ returns : tie.Need-returns Inv-loop μ-loop
 returns c =
     let l = c .before .before in
     let s = l .before .before .before in
+    let r = read s in
     let e : l .loop .i ≡ s .args .n = omega (arith, c .before .loop-test .left) in
-    let all = rw e at (l .loop .inv .1 .entered) in
-    let same = filled-same (read s) _ all in
-    (same, (filled-idle (read s) _ all, (filled-slacks (read s) _ all, c .pair-count .ensures ∙ size-of-same same)))
+    let (_, all, words) = rw e at (l .loop .inv) in
+    let same = filled-same r all in
+    (same, (filled-idle r all, (filled-slacks r all, filled-words r all words, c .pair-count .ensures ∙ size-of-same same)))
 
 pub fill-slacks-spec : {M : Type 1} → statement M
 fill-slacks-spec =
@@ -59,8 +83,11 @@ fill-slacks-spec =
     (tie.spec
     Inv-loop
     μ-loop
-    all-calls-requires
+    (λ c κs. let r = read (c .before) in omega (arith, r .known .calls-within))
     loop-holds
+    (λ c κs. room c .1)
+    (λ c. omega (arith, room (c .before)))
+    (λ c. room (c .before) .0)
     enter-lot-requires
     (λ c. omega arith)
     (λ c. omega arith)

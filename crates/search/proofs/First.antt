@@ -1,0 +1,123 @@
+-- What the search keeps at first: all eligible pairs are left, none is marked, and each lot is to be asked.
+use mathlib.Core.Path.{_≡_, refl, sym, _∙_, ap}
+use mathlib.Core.Logic.{by-cases}
+use mathlib.Core.Bool.{Bool, true, false, cond, not, true≢false, Bool-discrete}
+use mathlib.Core.List.{List}
+use Prim.Native.Nat.{ℕ, suc, _+_, _*_, _≤_, _<_}
+use native.Mathlib.Decide.{decLt, ℕ-discrete}
+use native.Mathlib.Omega.{arith}
+use borrow.Author.Tests.{eq-eqb, ne-eqb, eqb-true}
+use lib.Dec.{eqb, not-T}
+use lib.ListN.{length, getD, replicate, length-replicate, List·getD-eq-default}
+use Rattle.specification.specs.Costs.{costTop}
+use Rattle.specification.specs.Book.{bit}
+use Rattle.book.specs.Table.{entry}
+use Rattle.slacks.specs.Slacks.{remains, bySlacks, Slacks, Eligible}
+use Rattle.slacks.proofs.BySlacks.{zeros-at, remains-says, admits-is, size-few}
+use Rattle.slacks.proofs.Going.{Going, going-start}
+use Rattle.transport.specs.Finder.{size}
+use Rattle.transport.proofs.Laws.Tests.{T-of, T-true, F-of, false-of}
+use Rattle.words.specs.Words.{Below}
+use Rattle.words.specs.Lefts.{isLeft}
+use Rattle.words.proofs.Sets.{bit-none, bit-all}
+use Rattle.ranks.specs.Numbered.{Plain}
+use Rattle.lines.specs.Lines.{Lined, Ended, Settled}
+use Rattle.trial.specs.Testing.{raisedOf, Raised}
+use Rattle.trial.specs.Left.{Table, Left}
+use Rattle.search.specs.Marks.{Half, Asked, Standing}
+
+-- no mark stands at first
+half-first : {ranked : Bool} {slacks lefts nears fars : List ℕ} → Half ranked slacks lefts nears fars (replicate 32 0) (replicate 32 0)
+half-first = record {
+  hindered = λ i j on e. absurd (true≢false (sym e ∙ clear i j));
+  waits-are = record { waiting = λ i j e. absurd (true≢false (sym e ∙ clear i j)); long = length-replicate {A = ℕ} 32 0 };
+}
+  where
+    clear : (i j : ℕ) → isLeft (replicate 32 0) i j ≡ false
+    clear i j = ap (λ (w : ℕ). bit w j) (zeros-at 32 i) ∙ bit-none j
+
+module _ {ranked : Bool} {slacks : List ℕ} {n m : ℕ} {names ranks eligible : List ℕ} (t : Table ranked slacks n m names ranks eligible) where
+  -- where a pair is eligible: by ranks each pair is, and with plain numbers the one that is the same
+  moved : {i j k l : ℕ} → isLeft eligible i j ≡ true → k < n → l < m → (Plain names → Plain ranks → (k ≡ i) × (l ≡ j)) → isLeft eligible k l ≡ true
+  moved {k} {l} e hk hl same = by-cases (Bool-discrete ranked true)
+      (λ y. t .eligible-are .each k l hk hl ∙ sym (admits-is slacks n m k l hk hl) ∙ T-true _ (t .monge y .complete k l hk hl))
+      (λ o. let (a, r) = t .plain (false-of ranked o) in rw (same a r .0, same a r .1) e)
+
+  -- so each stays eligible by ranks and by names
+  pub settled-first : (i j : ℕ) → isLeft eligible i j ≡ true → Settled names ranks eligible i j
+  settled-first i j e =
+      let (hi, hj) = t .eligible-are .inside i j e in
+      let k = t .numbered in
+      let lots = k .lots-named in
+      let calls = k .calls-named in
+      let hx : i < 32 = omega (arith, k .lots-few) in
+      let hy : j < 32 = omega (arith, k .calls-few) in
+      record {
+        lot-few = hx;
+        call-few = hy;
+        by-rank = record { is-on = moved e hi (calls .rank-below j hj) (λ a r. (refl, omega (arith, r (32 + j) (omega arith)))); named = calls .at-rank j hj };
+        by-name = record { is-on = moved e hi (calls .at-below j hj) (λ a r. (refl, omega (arith, a (32 + j) (omega arith)))); named = calls .rank-at j hj };
+        lot-by-rank = (moved e (lots .rank-below i hi) hj (λ a r. (omega (arith, r i (omega arith)), refl)), lots .at-rank i hi);
+        lot-by-name = (moved e (lots .at-below i hi) hj (λ a r. (omega (arith, a i (omega arith)), refl)), lots .rank-at i hi);
+      }
+
+  -- a pair without slack is not left, and one that is left has slack
+  slack-of : (i l : ℕ) → isLeft eligible i l ≡ true → 0 < entry slacks i l
+  slack-of i l e =
+      let (hi, hl) = t .eligible-are .inside i l e in
+      remains-says slacks i l (T-of (sym (t .eligible-are .each i l hi hl) ∙ e))
+
+  no-slack : (i l : ℕ) → i < n → l < 32 → isLeft eligible i l ≡ false → entry slacks i l ≡ 0
+  no-slack i l hi hl e = by-cases (decLt l m)
+      (λ b. zero (entry slacks i l) (sym (t .eligible-are .each i l hi b) ∙ e))
+      (λ b. t .slacks-are .beyond i l hi (omega arith) hl)
+    where
+      zero : (v : ℕ) → not (eqb v 0) ≡ false → v ≡ 0
+      zero v f = by-cases (ℕ-discrete v 0) (λ z. z) (λ z. absurd (true≢false (sym (ap not (ne-eqb v 0 z)) ∙ f)))
+
+  raised-first : (raised : List ℕ) → ((x : ℕ) → x < 1024 → getD raised x 0 ≡ raisedOf (getD slacks x 0)) → length raised ≡ 1024
+      → Raised slacks eligible raised
+  raised-first raised h long = record {
+    on = λ i l hi hl e. h (32 * i + l) (omega arith) ∙ rw (ne-eqb (entry slacks i l) 0 (λ z. omega (arith, slack-of i l e, z)));
+    gone = λ i j l on hl e.
+        let hi = t .eligible-are .inside i j on .0 in
+        h (32 * i + l) (omega (arith, t .slacks-are .lots-few)) ∙ rw (eq-eqb (entry slacks i l) 0 (no-slack i l hi hl e));
+    low = λ x. by-cases (decLt x 1024)
+        (λ lt. omega (arith, h x lt, raised-le (eqb (getD slacks x 0) 0) (getD slacks x 0), t .slacks-are .capped x))
+        (λ o. omega (arith, List·getD-eq-default {A = ℕ} raised 0 {n = x} (omega arith)));
+  }
+    where
+      raised-le : (b : Bool) (v : ℕ) → cond b 0 (v + suc costTop) ≤ v + suc costTop
+      raised-le true v = omega arith
+      raised-le false v = omega arith
+
+  module _ {lines nears fars raised : List ℕ} (lined : Lined names ranks eligible lines) (ended : Ended names lines nears fars)
+      (raises : ranked ≡ false → (x : ℕ) → x < 1024 → getD raised x 0 ≡ raisedOf (getD slacks x 0)) (long : length raised ≡ 1024) where
+    pub standing-first : Standing ranked slacks names ranks eligible eligible lines nears fars raised (replicate 1024 0) (replicate 32 0)
+        (replicate 32 0) (replicate 32 0)
+    standing-first = record {
+      left = record {
+        among = λ i j e. e;
+        lined = lined;
+        ended = ended;
+        raised-is = λ e. raised-first raised (raises e) long;
+        lefts-long = t .eligible-are .long;
+        raised-long = long;
+      };
+      passed-is = record {
+        each = λ i j p hi hj lt. absurd (omega (arith, zeros-at 1024 (32 * i + j)));
+        long = length-replicate {A = ℕ} 1024 0;
+      };
+      marks = record { low-half = half-first; high-half = half-first; waits-long = length-replicate {A = ℕ} 32 0 };
+    }
+
+  pub asked-first : {some : ℕ} {low high : List ℕ} → Below 4294967295 n some → Asked eligible low high some
+  asked-first w = record {
+    each = λ i j on off.
+        let hi = t .eligible-are .inside i j on .0 in
+        absurd (true≢false (sym (bit-all 32 i (omega (arith, t .slacks-are .lots-few))) ∙ sym (w .lower i hi) ∙ off));
+  }
+
+  pub going-first : (pairs : List ℕ) (total : ℕ) → total ≡ size (bySlacks slacks n m) → Going (bySlacks slacks n m) (isLeft eligible) pairs 0 total
+  going-first pairs total e = going-start (bySlacks slacks n m) (isLeft eligible)
+      (λ i j hi hj. admits-is slacks n m i j hi hj ∙ sym (t .eligible-are .each i j hi hj)) pairs total e (omega (arith, size-few (t .slacks-are)))

@@ -1,0 +1,100 @@
+-- What stands once a pair is taken: what was left is left but for the pair, and a mark that stays has what it had to hinder its pair.
+use mathlib.Core.Path.{_≡_, refl, sym, ap, _∙_, subst}
+use mathlib.Core.Logic.{⊎-elim, by-cases}
+use mathlib.Core.Bool.{Bool, true, false, _||_, true≢false}
+use mathlib.Core.List.{List}
+use Prim.Native.Nat.{ℕ, _+_, _*_, _<_}
+use native.Mathlib.Decide.{ℕ-discrete}
+use native.Mathlib.Omega.{arith}
+use lib.ListN.{length, getD, set, length-set}
+use lib.Seq.{getD-set-same, getD-set-other}
+use Rattle.specification.specs.Book.{bit}
+use Rattle.words.specs.Words.{Either}
+use Rattle.words.specs.Lefts.{isLeft, TakenFrom}
+use Rattle.words.proofs.Lefts.{same-pair, gone, stays, fewer}
+use Rattle.lines.specs.Lines.{EndsKept}
+use Rattle.trial.specs.Testing.{Raised}
+use Rattle.search.specs.Marks.{Waiting, Half, Asked, Standing}
+use Rattle.search.specs.Steps.{MayGo, Fewer, Taken}
+
+module _ {i j : ℕ} {lefts lefts′ : List ℕ} (t : TakenFrom i j lefts lefts′) where
+  -- the raised slack of the pair is 0
+  raised-then : {slacks raised : List ℕ} → i < 32 → j < 32 → length raised ≡ 1024 → Raised slacks lefts raised → Raised slacks lefts′ (set raised (32 * i + j) 0)
+  raised-then {slacks} {raised} hi hj long r = record {
+    on = λ a l ha hl e. other a l hl (λ z. true≢false (sym e ∙ gone t a l z)) ∙ r .on a l ha hl (fewer t a l e);
+    gone = λ a x l on hl e. ⊎-elim (λ z. rw (z .0, z .1) own) (λ d. other a l hl d ∙ r .gone a x l (fewer t a x on) hl (sym (stays t a l d) ∙ e)) (same-pair a l i j);
+    low = λ x. by-cases (ℕ-discrete x (32 * i + j)) (λ z. rw (z, own) (omega arith)) (λ d. rw (getD-set-other raised (32 * i + j) x 0 0 d) (r .low x));
+  }
+    where
+      own : getD (set raised (32 * i + j) 0) (32 * i + j) 0 ≡ 0
+      own = getD-set-same raised (32 * i + j) 0 0 (omega arith)
+
+      other : (a l : ℕ) → l < 32 → ((a ≡ i) × (l ≡ j) → ⊥) → getD (set raised (32 * i + j) 0) (32 * a + l) 0 ≡ getD raised (32 * a + l) 0
+      other a l hl d = getD-set-other raised (32 * i + j) (32 * a + l) 0 0 (λ z. d (omega arith, omega arith))
+
+  -- what hinders a pair whose mark stays is left, and by ranks it stays at the ends
+  half-then : {ranked row column : Bool} {slacks nears nears′ fars fars′ waits waits′ marks marks′ : List ℕ} → Half ranked slacks lefts nears fars waits marks
+      → EndsKept i j lefts′ nears nears′ → EndsKept i j lefts′ fars fars′ → MayGo ranked (getD nears i 0) j row → MayGo ranked (getD fars (32 + j) 0) i column
+      → Fewer i j row column marks marks′ → Waiting waits′ marks′ → Half ranked slacks lefts′ nears′ fars′ waits′ marks′
+  half-then {nears = nears} {fars = fars} {marks′ = marks′} h n f r c less w = record {
+    hindered = λ a l e m.
+        let x = h .hindered a l (fewer t a l e) (less .fewer a l m) in
+        let in-row : (a ≡ i) × (x .call ≡ j) → ⊥ = λ (y, z).
+        let (by-ranks, other) = r .stays (less .row-stays l (subst (λ (a : ℕ). isLeft marks′ a l ≡ true) y m)) in
+        other (ap (λ (a : ℕ). getD nears a 0) (sym y) ∙ sym (x .cornered by-ranks .1) ∙ z) in
+        let in-column : (x .lot ≡ i) × (l ≡ j) → ⊥ = λ (y, z).
+        let (by-ranks, other) = c .stays (less .column-stays a (subst (λ (l : ℕ). isLeft marks′ a l ≡ true) z m)) in
+        other (ap (λ (l : ℕ). getD fars (32 + l) 0) (sym z) ∙ sym (x .cornered by-ranks .0) ∙ y) in
+        record {
+          lot = x .lot;
+          call = x .call;
+          by-it = record {
+            held = stays t (x .lot) l in-column ∙ x .by-it .held;
+            left = stays t a (x .call) in-row ∙ x .by-it .left;
+            unfit = x .by-it .unfit;
+          };
+          cornered = λ by-ranks. let (y, z) = x .cornered by-ranks in (
+            y ∙ sym (f .column a l e (λ (u, v). in-column (y ∙ v, u))),
+            z ∙ sym (n .row a l e (λ (u, v). in-row (u, z ∙ v))),
+          );
+        };
+    waits-are = w;
+  }
+
+-- all that is kept, and the lots to be asked
+module _ {ranked : Bool} {names ranks : List ℕ} {i j : ℕ} {lefts lefts′ lines′ nears nears′ fars fars′ raised raised′ waits waits′ low low′ high high′ : List ℕ} {again : ℕ}
+    (t : Taken ranked names ranks i j lefts lefts′ lines′ nears nears′ fars fars′ raised raised′ waits waits′ low low′ high high′ again) where
+  pub standing-then : {slacks eligible lines passed : List ℕ} → i < 32 → j < 32
+      → Standing ranked slacks names ranks eligible lefts lines nears fars raised passed waits low high
+      → Standing ranked slacks names ranks eligible lefts′ lines′ nears′ fars′ raised′ passed waits′ low′ high′
+  standing-then hi hj s = let from = t .from-lot in
+      let u = t .unmarked in
+      record {
+        left = record {
+          among = λ a l e. s .left .among a l (fewer from a l e);
+          lined = t .lined;
+          ended = t .ended;
+          raised-is = λ e. rw (t .lowered) (raised-then from hi hj (s .left .raised-long) (s .left .raised-is e));
+          lefts-long = from .long ∙ s .left .lefts-long;
+          raised-long = rw (t .lowered) (length-set raised (32 * i + j) 0 ∙ s .left .raised-long);
+        };
+        passed-is = record {
+          each = λ a l p ha hl lt. record { fits = λ e c f. s .passed-is .each a l p ha hl lt .fits (fewer from _ l e) c (fewer from a c f) };
+          long = s .passed-is .long;
+        };
+        marks = record {
+          low-half = half-then from (s .marks .low-half) (t .nears-kept) (t .fars-kept) (t .low-row-goes) (t .low-column-goes) (u .low-fewer) (u .low-waits);
+          high-half = half-then from (s .marks .high-half) (t .fars-kept) (t .nears-kept) (t .high-row-goes) (t .high-column-goes) (u .high-fewer) (u .high-waits);
+          waits-long = u .waits-long;
+        };
+      }
+
+  pub asked-then : {some some′ : ℕ} → Asked lefts low high some → bit some i ≡ true → Either some again some′ → Asked lefts′ low′ high′ some′
+  asked-then {some} asked own more = record {
+    each = λ k l e o. let (x, y) = neither (bit some k) (bit again k) (sym (more .each k) ∙ o) in
+        t .unmarked .asked k l (λ z. true≢false (sym own ∙ ap (bit some) (sym z) ∙ x)) y (asked .each k l (fewer (t .from-lot) k l e) x);
+  }
+    where
+      neither : (a b : Bool) → (a || b) ≡ false → (a ≡ false) × (b ≡ false)
+      neither true b e = absurd (true≢false e)
+      neither false b e = (refl, e)

@@ -1,0 +1,80 @@
+-- What is searched, what is left of it, and what is told of a pair that is tried. A pair is hindered in one or two halves, low and high. By ranks
+-- the low half is that it does not fit with the last lot of its call at the first call of its lot, and the high half with the first lot at
+-- the last call. Without ranks it is hindered in the low half, and what hinders it may be anywhere.
+use mathlib.Core.Path.{_≡_}
+use mathlib.Core.Bool.{Bool, true, false, _||_}
+use mathlib.Core.List.{List}
+use Prim.Native.Nat.{ℕ, _+_, _<_}
+use lib.ListN.{length, getD}
+use Rattle.transport.proofs.Finder.Ranks.{Ranked}
+use Rattle.specification.specs.Book.{bit}
+use Rattle.book.specs.Table.{entry}
+use Rattle.slacks.specs.Slacks.{bySlacks, Slacks, Eligible}
+use Rattle.words.specs.Lefts.{isLeft}
+use Rattle.ranks.specs.Numbered.{Numbered, Plain}
+use Rattle.lines.specs.Lines.{Lined, Ended}
+use Rattle.trial.specs.Testing.{LetsPass, Passes, Hinders, Raised}
+use Rattle.trial.specs.declared.Trial.{Trial}
+use Rattle.trial.specs.declared.Trial.the-variants.{Free, Hindered}
+
+-- slacks of n lots and m calls, with the words of the eligible calls, and ranks: by them they are Monge, if so said, or the ranks are the numbers
+pub record Table (ranked : Bool) (slacks : List ℕ) (n m : ℕ) (names ranks eligible : List ℕ) : Type 0 where
+  pub slacks-are : Slacks slacks n m
+  pub eligible-are : Eligible slacks n m eligible
+  pub numbered : Numbered n m names ranks
+  pub monge : ranked ≡ true → Ranked (bySlacks slacks n m) (λ i. getD ranks i 0) (λ j. getD ranks (32 + j) 0)
+  pub plain : ranked ≡ false → Plain names × Plain ranks
+
+-- the same, of some lots and calls
+pub record Tabled (ranked : Bool) (slacks names ranks eligible : List ℕ) : Type 0 where
+  pub lots : ℕ
+  pub calls : ℕ
+  pub table : Table ranked slacks lots calls names ranks eligible
+
+-- what is left, in words, by lines with their ends, and by raised slacks where there are no ranks
+pub record Left (ranked : Bool) (slacks names ranks eligible lefts lines nears fars raised : List ℕ) : Type 0 where
+  pub among : (i j : ℕ) → isLeft lefts i j ≡ true → isLeft eligible i j ≡ true
+  pub lined : Lined names ranks lefts lines
+  pub ended : Ended names lines nears fars
+  pub raised-is : ranked ≡ false → Raised slacks lefts raised
+  pub lefts-long : length lefts ≡ 32
+  pub raised-long : length raised ≡ 1024
+
+-- the lots of the ranks below its number let a pair pass
+pub record Passed (slacks names lefts passed : List ℕ) : Type 0 where
+  pub each : (i j p : ℕ) → i < 32 → j < 32 → p < entry passed i j → LetsPass slacks lefts i j (getD names p 0)
+  pub long : length passed ≡ 1024
+
+-- (i, j) is hindered; by ranks, at the far end of its call and the near end of its lot
+pub record HinderedIn (ranked : Bool) (slacks lefts nears fars : List ℕ) (i j : ℕ) : Type 0 where
+  pub lot : ℕ
+  pub call : ℕ
+  pub by-it : Hinders slacks lefts i j lot call
+  pub cornered : ranked ≡ true → (lot ≡ getD fars (32 + j) 0) × (call ≡ getD nears i 0)
+
+-- in the halves that are told, at least one; for the high half near and far are exchanged
+pub record Halves (ranked : Bool) (slacks lefts nears fars : List ℕ) (i j : ℕ) (low high : Bool) : Type 0 where
+  pub low-told : low ≡ true → HinderedIn ranked slacks lefts nears fars i j
+  pub high-told : high ≡ true → HinderedIn ranked slacks lefts fars nears i j
+  pub told : (low || high) ≡ true
+
+-- what a trial of (i, j) answers
+abbrev pub TrialOf : Bool → List ℕ → List ℕ → List ℕ → List ℕ → ℕ → ℕ → Trial → Type 0
+TrialOf ranked slacks lefts nears fars i j Free = Passes slacks lefts i j
+TrialOf ranked slacks lefts nears fars i j (Hindered low high) = Halves ranked slacks lefts nears fars i j low high
+
+-- what is asked of the caller that tries (i, j): it is left, and what is kept stands
+pub record Trying (ranked : Bool) (slacks names ranks eligible lefts lines nears fars raised : List ℕ) (i j : ℕ) : Type 0 where
+  pub tabled : Tabled ranked slacks names ranks eligible
+  pub left : Left ranked slacks names ranks eligible lefts lines nears fars raised
+  pub is-left : isLeft lefts i j ≡ true
+
+-- the ranks of the lots that are to be asked about (i, j): they are on the line of call j, and each lot of another rank lets it pass
+pub record ToAsk (slacks ranks lefts lines : List ℕ) (i j lots : ℕ) : Type 0 where
+  pub passed : (k : ℕ) → bit lots (getD ranks k 0) ≡ false → LetsPass slacks lefts i j k
+  pub on-column : (p : ℕ) → bit lots p ≡ true → isLeft lines (32 + j) p ≡ true
+
+-- they are to be asked, without ranks by which the costs are Monge
+abbrev pub Asking : List ℕ → List ℕ → List ℕ → List ℕ → ℕ → List ℕ → ℕ → ℕ → Type 0
+Asking slacks names eligible lefts lots raised i j = (ranks : List ℕ) × (lines : List ℕ) × (nears : List ℕ) × (fars : List ℕ)
+    × Trying false slacks names ranks eligible lefts lines nears fars raised i j × ToAsk slacks ranks lefts lines i j lots
