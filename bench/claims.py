@@ -194,7 +194,7 @@ def ratios(call):
     return f"{min(last)} to {max(last)} times less", re.search(r"in (\d+) of these 24 cases", below)[1]
 
 
-@claim("finding and placing takes 1.3 to 2.7 times less than LEMON, placing alone 1.9 to 6.0 times less")
+@claim("finding and placing takes 1.2 to 5.7 times less than LEMON, placing alone 1.7 to 6.7 times less")
 def speed():
     (both, slower), (alone, slower_alone) = ratios("find_and_run"), ratios("run_order")
     said = f"finding and placing takes {both} than LEMON, placing alone {alone}"

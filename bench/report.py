@@ -189,7 +189,7 @@ def panel_tables(times, counts):
 def stack_table(calls, bound, panel_bound):
     """Return the stack that each call takes."""
     text = "\n## Stack a call, bytes\n\n"
-    text += "On the largest book, with an idle call that of 31 calls, and also on that book less one pair, which is searched in another way.\n"
+    text += "On the largest book, with an idle call that of 31 calls, and also on that book less one pair, whose pairs are tried in another way.\n"
     text += "The ticket panel's call on the largest book that it takes, of 8 lots and 8 calls, and on that book less one pair.\n"
     text += f"By `tests/stack.c`, which fails above the bounds in `placer.h`: `PLACER_STACK`, {bound:,}, and for the ticket panel's call\n"
     text += f"`PLACER_PANEL_STACK`, {panel_bound:,}.\n\n"

@@ -68,7 +68,7 @@ extern "C" {
 #define PLACER_ORDER_MAX 2055
 #define PLACER_AMOUNTS_MAX 391   /* of version 2; of version 1 it is 263 */
 #define PLACER_FLOW_MAX 1024     /* entries: always enough */
-#define PLACER_STACK 24576       /* bytes: no call takes more (measured; the finder takes most) */
+#define PLACER_STACK 20480       /* bytes: no call takes more (measured; the finder takes most) */
 #define PLACER_PANEL_SIDE_MAX 8  /* lots, and calls, of placer_find_and_run_panel */
 #define PLACER_PANEL_FLOW_MAX 64 /* entries: always enough for it */
 #define PLACER_PANEL_STACK 8192  /* bytes: it takes no more (measured; most where the loader binds memcpy in the first call) */

@@ -1,5 +1,5 @@
 /* Measures the stack that each call takes on the largest book, with an order that passes and with one that fails, and on that book less
- * one pair, which the finder searches in another way; the run with an idle call and the ticket panel's on the largest books that they
+ * one pair, whose pairs the finder tries in another way; the run with an idle call and the ticket panel's on the largest books that they
  * take, of 31 calls and of eight by eight; and the longest calls on books and amounts of version 2. The first of all has the loader bind
  * memcpy on its stack where that is done late. The call runs in a thread whose stack was filled with a pattern. Fails if a call takes more
  * than the header says, of all calls or of the panel's. bench/run puts the figures on its page. */

@@ -13,7 +13,7 @@ use Rattle.transport.specs.Finder.{size, find}
 use Rattle.transport.proofs.Laws.Sets.{count-le}
 use Rattle.transport.proofs.Orders.Length.{order-length}
 use Rattle.transport.proofs.Finder.Find.{find-is-order}
-use Rattle.specification.specs.Reply.{Size, gives, refuses, refused, statedCounts}
+use Rattle.specification.specs.Reply.{Reply, Size, gives, refuses, refused, statedCounts}
 use Rattle.specification.specs.declared.Refusal.{Refusal}
 use Rattle.specification.specs.declared.Counts.{Counts}
 use Rattle.specification.specs.declared.Counts.the-variants.{Refused}
@@ -57,33 +57,23 @@ module _ (book buffer : List ℕ) where
   unfolding findOrder findBuffer
   refused-replies k vs e = (simp e, simp e)
 
-  given-replies : (S : List Pair) → foundOrder book buffer ≡ gives S
-      → (gives (orderLength book) ≡ findOrder book buffer) × (orderFile S ++ drop (orderLength book) buffer ≡ findBuffer book buffer)
-  unfolding findOrder findBuffer
-  given-replies S e = (simp e, simp e)
+-- the reply that a search's answer makes
+abbrev replyOf : List ℕ → Search → Reply ℕ
+replyOf book Nothing = refuses 13 []
+replyOf book (Found count) = gives (orderLength book)
 
--- the search's answer is the reply for the book
-module _ (book buffer after : List ℕ) {size : Size} (e : readBook book ≡ gives size) (h : orderLength book ≤ length buffer)
-    (r : Search) (answer : Orders (find (problemOf book)) r buffer after) where
-  pub none-replies : r ≡ Nothing → (refuses 13 [] ≡ findOrder book buffer) × (after ≡ findBuffer book buffer)
-  none-replies q = go (find (problemOf book)) refl answer
-    where
-      go : (o : Option (List Pair)) → find (problemOf book) ≡ o → Orders o r buffer after
-          → (refuses 13 [] ≡ findOrder book buffer) × (after ≡ findBuffer book buffer)
-      go none f w = let replies = refused-replies book buffer 13 [] (found-by book buffer e none h f) in (replies .0, w .1 ∙ replies .1)
-      go (some S) f w = let z : _≡_ {A = ℕ} 0 1 = cc in absurd (omega arith)
-
-  pub some-replies : (count : ℕ) → r ≡ Found count
-      → (gives (orderLength book) ≡ findOrder book buffer) × (after ≡ findBuffer book buffer)
-  some-replies count q = go (find (problemOf book)) refl answer
-    where
-      go : (o : Option (List Pair)) → find (problemOf book) ≡ o → Orders o r buffer after
-          → (gives (orderLength book) ≡ findOrder book buffer) × (after ≡ findBuffer book buffer)
-      go none f w = let z : _≡_ {A = ℕ} 0 1 = cc in absurd (omega arith)
-      go (some S) f w =
-          let replies = given-replies book buffer S (found-by book buffer e (some S) h f) in
-          let long = order-length (find-is-order (problemOf book) S f) in
-          (replies .0, w .1 ∙ ap (λ (k : ℕ). orderFile S ++ drop (7 + 2 * k) buffer) long ∙ replies .1)
+-- it is the reply for the book
+pub search-replies : (book buffer after : List ℕ) {size : Size} → readBook book ≡ gives size → orderLength book ≤ length buffer → (r : Search)
+    (o : Option (List Pair)) → find (problemOf book) ≡ o → Orders o r buffer after
+    → (replyOf book r ≡ findOrder book buffer) × (after ≡ findBuffer book buffer)
+unfolding findOrder findBuffer
+search-replies book buffer after e h r none f (q, kept) =
+    let found = found-by book buffer e none h f in
+    rw q (simp found, kept ∙ simp found)
+search-replies book buffer after e h r (some S) f (q, written) =
+    let found = found-by book buffer e (some S) h f in
+    let long = order-length (find-is-order (problemOf book) S f) in
+    rw q (simp found, written ∙ ap (λ (k : ℕ). orderFile S ++ drop (7 + 2 * k) buffer) long ∙ simp found)
 
 -- the pairs that are searched: no more than 1,024, where there is room for the idle call
 pub searched-within : {book : List ℕ} {n m : ℕ} → Read book n m → (idle : Bool) → (idle ≡ true → m < 32)
@@ -92,8 +82,4 @@ unfolding problemOf
 searched-within r false room = size-within (r .known)
 searched-within {book} r true room =
     let few : suc (problemOf book .calls) ≤ 32 = omega (arith, room refl, r .calls-is) in
-    omega (
-      arith,
-      count-le (enlarged book) (enlarged book .admits),
-      mul-le-mul (problem-within (r .known) .0) few,
-    )
+    omega (arith, count-le (enlarged book) (enlarged book .admits), mul-le-mul (problem-within (r .known) .0) few)

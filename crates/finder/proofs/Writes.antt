@@ -56,12 +56,10 @@ file-written count src before mid part few h seven opened copied =
     (rw (opened, le-ltb (length before) 7 seven, high, pairs-length, pairs-bytes, ← drop-drop))
 
 -- the whole answer, where the search's own is known; an order has as many pairs as are eligible
-pub counts-found : (P : Problem) (r : Search) (count : ℕ) (bytes : List ℕ) → r ≡ Found count → Finds (find P) r bytes → count ≡ size P
-counts-found P r count bytes e f = go (find P) refl f
-  where
-    go : (o : Option (List Pair)) → find P ≡ o → Finds o r bytes → count ≡ size P
-    go none q w = let z : _≡_ {A = ℕ} 0 1 = cc in absurd (omega arith)
-    go (some S) q w = let c : count ≡ length S = cc in c ∙ order-length (find-is-order P S q)
+pub counts-found : (P : Problem) (o : Option (List Pair)) (r : Search) (count : ℕ) (bytes : List ℕ) → find P ≡ o → r ≡ Found count → Finds o r bytes
+    → count ≡ size P
+counts-found P none r count bytes q e f = let z : _≡_ {A = ℕ} 0 1 = cc in absurd (omega arith)
+counts-found P (some S) r count bytes q e f = let c : count ≡ length S = cc in c ∙ order-length (find-is-order P S q)
 
 pub orders-found : (o : Option (List Pair)) (r : Search) (count : ℕ) (bytes before after : List ℕ) → r ≡ Found count → Finds o r bytes
     → after ≡ orderFile (pairs count bytes) ++ drop (7 + 2 * count) before → Orders o (Found count) before after

@@ -13,17 +13,28 @@ use lib.ListN.{length, getD, set, length-set, List·getD-eq-default}
 use lib.Seq.{getD-set-same, getD-set-other}
 use Rattle.transport.proofs.Laws.Tests.{false-of}
 use Rattle.specification.specs.Book.{bit}
-use Rattle.words.specs.Words.{LowestIn, HighestIn, Without}
+use Rattle.words.specs.Words.{LowestIn, HighestIn, Without, Begins}
 use Rattle.words.specs.Lefts.{isLeft, TakenFrom}
 use Rattle.words.proofs.Sets.{bit-none}
 use Rattle.words.proofs.Ends.{word-positive, lowest-le, highest-ge, lowest-from, highest-from}
 use Rattle.words.proofs.Lefts.{gone, stays, fewer}
-use Rattle.lines.specs.Lines.{Lined, EndsOf, Ended, EndsKept, Settled, LineSet}
+use Rattle.lines.specs.Lines.{OnLine, Lined, EndsOf, Ended, EndsKept, Settled, LineSet}
 
 -- a word with a number is one of the list
 pub left-in : (xs : List ℕ) (x q : ℕ) → isLeft xs x q ≡ true → x < length xs
 left-in xs x q e = by-cases (decLt x (length xs)) (λ h. h)
     (λ h. absurd (true≢false (sym e ∙ rw (List·getD-eq-default xs 0 {n = x} (omega arith)) (bit-none q))))
+
+-- the lots with a call, of 32, are all that have it
+pub all-with : (lefts : List ℕ) (call word : ℕ) → length lefts ≡ 32 → Begins (λ i. isLeft lefts i call) 32 word → (i : ℕ) → bit word i ≡ isLeft lefts i call
+all-with lefts call word few b i = by-cases (decLt i 32)
+    (b .first i)
+    (λ o. b .none i (omega arith) ∙ sym (false-of _ (λ e. omega (arith, left-in lefts i call e))))
+
+-- what is on a line stays where its rank does
+still : {names ranks : List ℕ} {across word word′ x : ℕ} → OnLine names ranks across word x
+    → bit word′ (getD ranks (across + x) 0) ≡ bit word (getD ranks (across + x) 0) → OnLine names ranks across word′ x
+still o e = record { is-on = e ∙ o .is-on; named = o .named }
 
 -- ---- a line is set
 
@@ -95,7 +106,7 @@ module _ {names ranks eligible lines nears fars : List ℕ} (s : (i j : ℕ) →
   -- so the lines have what is eligible, by its ranks
   pub lined-first : Lined names ranks eligible lines
   lined-first = record {
-    row = λ a l e. let k = s a l e in record { is-on = f .rows a (k .lot-few) .has _ ∙ k .by-rank .is-on; named = k .by-rank .named };
+    row = λ a l e. still (s a l e .by-rank) (f .rows a (s a l e .lot-few) .has _);
     column = λ a l e. let k = s a l e in
         record { is-on = simp zero-add (f .columns l (k .call-few) .has _ ∙ k .lot-by-rank .0); named = simp zero-add (k .lot-by-rank .1) };
     row-of = λ a q h b. on-row a q h b .by-name .is-on;
@@ -159,16 +170,10 @@ module _ {names ranks lefts lefts′ lines lines₁ lines′ nears nears₁ near
   -- so they have what is left
   lined-less : Lined names ranks lefts′ lines′
   lined-less = record {
-    row = λ a l b. let o = lined .row a l (fewer t a l b) in record {
-      is-on = row-stays a _ (lot-few a l (fewer t a l b)) (λ y. apart t a l b (y .0)
-          (sym (o .named) ∙ ap (λ (r : ℕ). getD names (32 + r) 0) (y .1) ∙ lined .row i j e .named)) ∙ o .is-on;
-      named = o .named;
-    };
-    column = λ a l b. let o = lined .column a l (fewer t a l b) in record {
-      is-on = column-stays l _ (λ y. apart t a l b
-          (sym (o .named) ∙ ap (λ (r : ℕ). getD names (0 + r) 0) (y .1) ∙ lined .column i j e .named) (y .0)) ∙ o .is-on;
-      named = o .named;
-    };
+    row = λ a l b. let o = lined .row a l (fewer t a l b) in
+        still o (row-stays a _ (lot-few a l (fewer t a l b)) (λ y. apart t a l b (y .0) (cc (lined .row i j e .named))));
+    column = λ a l b. let o = lined .column a l (fewer t a l b) in
+        still o (column-stays l _ (λ y. apart t a l b (cc (lined .column i j e .named)) (y .0)));
     row-of = λ a q h b. let o = had a q b in stays t a _ (λ y. apart first a q (fewer second a q b) (y .0)
         (sym (lined .row-rank a q h o) ∙ ap (λ (x : ℕ). getD ranks (32 + x) 0) (y .1))) ∙ lined .row-of a q h o;
     column-of = λ l p h b. let o = had (32 + l) p b in stays t _ l (λ y. apart second (32 + l) p b (ap (λ (x : ℕ). 32 + x) (y .1))

@@ -42,7 +42,8 @@ pub record EndsKept (i j : ℕ) (lefts ends ends′ : List ℕ) : Type 0 where
   pub row : (a l : ℕ) → isLeft lefts a l ≡ true → ((a ≡ i) × (getD ends a 0 ≡ j) → ⊥) → getD ends′ a 0 ≡ getD ends a 0
   pub column : (a l : ℕ) → isLeft lefts a l ≡ true → ((l ≡ j) × (getD ends (32 + l) 0 ≡ i) → ⊥) → getD ends′ (32 + l) 0 ≡ getD ends (32 + l) 0
 
--- (i, j) is eligible, and so it is with the rank or the name of either for its number; the rank of its name, and the name of its rank, is itself
+-- of a pair (i, j) that is eligible: so it is with the rank or the name of either for its number, and the rank of its name, and the name of its
+-- rank, is itself
 pub record Settled (names ranks eligible : List ℕ) (i j : ℕ) : Type 0 where
   pub lot-few : i < 32
   pub call-few : j < 32

@@ -66,12 +66,10 @@ pub fn first_lines(
     ensures { λ r. ⌜ Lined (now (names .entry)) (now (ranks .entry)) (now (eligible .entry)) (now (lines .exit)) ⌝ }
     ensures { λ r. ⌜ Ended (now (names .entry)) (now (lines .exit)) (now (nears .exit)) (now (fars .exit)) ⌝ }
 {
-    let mut x = 0;
-    while x < SIDE {
+    for x in 0..SIDE {
         set_line(names, eligible[x], x, SIDE, lines, nears, fars);
         let column = column_of(eligible, x);
         set_line(names, column, SIDE + x, 0, lines, nears, fars);
-        x += 1;
     }
 }
 

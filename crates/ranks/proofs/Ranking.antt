@@ -5,8 +5,9 @@ use mathlib.Core.Bool.{cond}
 use mathlib.Core.List.{List}
 use Prim.Native.Nat.{ℕ, suc, _+_, _*_, _-_, _≤_, _<_}
 use native.Mathlib.Omega.{arith}
+use borrow.Author.Needs.{needs}
 use lib.Dec.{T}
-use lib.ListN.{getD}
+use lib.ListN.{length, getD}
 use Rattle.transport.specs.Problem.{sum, Problem}
 use Rattle.transport.specs.Finder.{size}
 use Rattle.transport.proofs.Laws.Tests.{counted-le, counted-says}
@@ -15,7 +16,7 @@ use Rattle.transport.proofs.Finder.Ranks.{monge-of-neighbours, Renames, rank-ap
 use Rattle.specification.specs.Costs.{costTop}
 use Rattle.book.specs.Table.{entry}
 use Rattle.slacks.specs.Slacks.{bySlacks, Slacks}
-use Rattle.ranks.specs.Numbered.{Numbered, Lined, Plain, costBy, FitsNext}
+use Rattle.ranks.specs.Numbered.{Numbered, Listed, Plain, costBy, FitsNext}
 
 -- terms that are at most b, and whose sum is the most that there can be
 full-sum : (n b : ℕ) (f : ℕ → ℕ) → ((i : ℕ) → i < n → f i ≤ b) → n * b ≤ sum n f → (i : ℕ) → i < n → f i ≡ b
@@ -38,40 +39,29 @@ complete-of P full i j hi hj = counted-says (P .admits i j) 1 (omega (
     few k h = omega (arith, sum-le (P .calls) 1 (ones k) (λ l g. counted-le (P .admits k l) 1))
 
 -- numbers as they are
-plain-renames : {n : ℕ} {rank at : ℕ → ℕ} → n ≤ 32 → ((x : ℕ) → x < 32 → rank x ≡ x) → ((x : ℕ) → x < 32 → at x ≡ x) → Renames n rank at
-plain-renames few r a = record {
-  rank-below = λ i h. omega (arith, r i (omega arith));
-  at-below = λ p h. omega (arith, a p (omega arith));
-  at-rank = λ i h. rw (r i (omega arith)) (a i (omega arith));
-  rank-at = λ p h. rw (a p (omega arith)) (r p (omega arith));
+plain-renames : {n : ℕ} {own : ℕ → ℕ} → n ≤ 32 → ((x : ℕ) → x < 32 → own x ≡ x) → Renames n own own
+plain-renames few same = record {
+  rank-below = λ i h. omega (arith, same i (omega arith));
+  at-below = λ p h. omega (arith, same p (omega arith));
+  at-rank = λ i h. rw (same i (omega arith)) (same i (omega arith));
+  rank-at = λ p h. rw (same p (omega arith)) (same p (omega arith));
 }
 
-module _ {slacks names ranks : List ℕ} {n m : ℕ} (s : Slacks slacks n m) (long : Lined names ranks) where
-  -- the parts of a numbering
-  numbered-of : Renames n (λ i. getD ranks i 0) (λ p. getD names p 0) → Renames m (λ j. getD ranks (32 + j) 0) (λ q. getD names (32 + q) 0)
-      → Numbered n m names ranks
-  numbered-of lots calls = record {
-    lots-few = s .lots-few;
-    calls-few = s .calls-few;
-    lots-named = lots;
-    calls-named = calls;
-    names-long = long .0;
-    ranks-long = long .1;
-  }
-
-  -- both lists have each line's own number
-  pub plain-numbered : Plain names → Plain ranks → Numbered n m names ranks
-  plain-numbered a r = numbered-of
-      (plain-renames (s .lots-few) (λ x h. omega (arith, r x (omega arith))) (λ x h. omega (arith, a x (omega arith))))
-      (plain-renames (s .calls-few) (λ x h. omega (arith, r (32 + x) (omega arith))) (λ x h. omega (arith, a (32 + x) (omega arith))))
+module _ {slacks : List ℕ} {n m : ℕ} (s : Slacks slacks n m) where
+  -- each line has its own number
+  pub plain-numbered : {lines : List ℕ} → length lines ≡ 64 → Plain lines → Numbered n m lines lines
+  plain-numbered {lines} long plain =
+      let lots = plain-renames {own = λ x. getD lines x 0} (s .lots-few) (λ x h. omega (arith, plain x (omega arith))) in
+      let calls = plain-renames {own = λ x. getD lines (32 + x) 0} (s .calls-few) (λ x h. omega (arith, plain (32 + x) (omega arith))) in
+      search needs
 
   -- ranks that are checked
-  pub ranked-of : n * m ≡ size (bySlacks slacks n m)
+  pub ranked-of : {names ranks : List ℕ} → Listed names ranks → n * m ≡ size (bySlacks slacks n m)
       → Renames n (λ i. getD ranks i 0) (λ p. getD names p 0) → Renames m (λ j. getD ranks (32 + j) 0) (λ q. getD names (32 + q) 0)
       → ((p : ℕ) → p + 1 < n → (q : ℕ) → q + 1 < m → FitsNext slacks names p q)
       → Numbered n m names ranks × Ranked (bySlacks slacks n m) (λ i. getD ranks i 0) (λ j. getD ranks (32 + j) 0)
-  ranked-of full lots calls next = (
-    numbered-of lots calls,
+  ranked-of {names} {ranks} long full lots calls next = (
+    search needs,
     record {
       complete = complete-of (bySlacks slacks n m) full;
       lots-apart = rank-apart lots;

@@ -4,20 +4,19 @@ mod guess;
 
 use files::wide;
 use guess::guess;
-use guess::one_if_below;
 use slacks::PAIRS;
 use slacks::SIDE;
 use slacks::SLACK_MOST;
 use slacks::entry_at;
 ghost use mathlib.Core.Path.{_≡_};
 ghost use mathlib.Core.Bool.{true, false};
-ghost use Prim.Native.Nat.{ℕ, suc, _+_, _*_, _≤_, _<_};
+ghost use Prim.Native.Nat.{suc, _+_, _*_, _≤_, _<_};
 ghost use lib.ListN.{length, getD};
 ghost use Rattle.transport.specs.Finder.{size};
 ghost use Rattle.transport.proofs.Finder.Ranks.{Renames, Ranked};
 ghost use Rattle.specification.specs.Costs.{costTop};
 ghost use Rattle.slacks.specs.Slacks.{bySlacks, Capped, Slacks};
-ghost use Rattle.ranks.specs.Numbered.{Numbered, Lined, Plain, costBy, FitsNext};
+ghost use Rattle.ranks.specs.Numbered.{Numbered, Listed, Plain, costBy};
 
 // A line is a lot or a call: line i is lot i, and line SIDE + j is call j.
 pub const LINES: usize = 2 * SIDE;
@@ -76,35 +75,25 @@ fn rise(slacks: &[u32; PAIRS], names: &Lines, p: usize, q: usize) -> u32
     SLACK_MOST + cost_by(slacks, names, p + 1, q) - cost_by(slacks, names, p, q)
 }
 
-// How many neighbours of ranks p and p + 1 do not fit.
-fn misfits(slacks: &[u32; PAIRS], names: &Lines, m: usize, p: usize) -> u32
-    requires { ⌜ Capped (now slacks) × (m ≤ 32) × (p < 31) ⌝ }
-    ensures { λ r. ⌜ (r ≡ 0 → (q : ℕ) → q + 1 < m → FitsNext (now (slacks .entry)) (now (names .entry)) p q) ⌝ }
-{
-    let mut count: u32 = 0;
-    let mut q = 0;
-    while q + 1 < m {
-        count += one_if_below(rise(slacks, names, p, q), rise(slacks, names, p, q + 1));
-        q += 1;
-    }
-    count
-}
-
 // Whether lots and calls are named anew, and all neighbours by their ranks fit.
 fn passes(slacks: &[u32; PAIRS], n: usize, m: usize, names: &Lines, ranks: &Lines) -> bool
-    requires { ⌜ Slacks (now slacks) n m × (n * m ≡ size (bySlacks (now slacks) n m)) × Lined (now names) (now ranks) ⌝ }
+    requires { ⌜ Slacks (now slacks) n m × (n * m ≡ size (bySlacks (now slacks) n m)) × Listed (now names) (now ranks) ⌝ }
     ensures { λ r. ⌜ (r ≡ true → Numbered n m (now (names .entry)) (now (ranks .entry)) × Ranked (bySlacks (now (slacks .entry)) n m)
         (λ i. getD (now (ranks .entry)) i 0) (λ j. getD (now (ranks .entry)) (32 + j) 0)) ⌝ }
 {
-    if !renames(names, ranks, 0, n) {
-        return false;
-    }
-    if !renames(names, ranks, SIDE, m) {
+    if !renames(names, ranks, 0, n) || !renames(names, ranks, SIDE, m) {
         return false;
     }
     let mut p = 0;
     while p + 1 < n {
-        if 0 < misfits(slacks, names, m, p) {
+        // Whether neighbours of ranks p and p + 1 do not fit. All are tried, so that there is no branch.
+        let mut found = false;
+        let mut q = 0;
+        while q + 1 < m {
+            found = rise(slacks, names, p, q) < rise(slacks, names, p, q + 1) || found;
+            q += 1;
+        }
+        if found {
             return false;
         }
         p += 1;
@@ -113,13 +102,14 @@ fn passes(slacks: &[u32; PAIRS], n: usize, m: usize, names: &Lines, ranks: &Line
 }
 
 // Each lot and each call has its own number.
-fn number(lines: &mut Lines)
-    requires { ⌜ length (now lines) ≡ 64 ⌝ }
-    ensures { λ r. ⌜ (length (now (lines .exit)) ≡ 64) × Plain (now (lines .exit)) ⌝ }
+fn numbers() -> Lines
+    ensures { λ r. ⌜ (length r ≡ 64) × Plain r ⌝ }
 {
+    let mut lines: Lines = [0; LINES];
     for x in 0..LINES {
         lines[x] = (x % SIDE) as u8;
     }
+    lines
 }
 
 // Numbers the lots and the calls, of which `total` pairs are eligible: the names by rank, and the ranks. Whether the slacks are Monge by the ranks.
@@ -131,7 +121,7 @@ pub fn rank(
     names: &mut Lines,
     ranks: &mut Lines,
 ) -> bool
-    requires { ⌜ Slacks (now slacks) n m × (total ≡ size (bySlacks (now slacks) n m)) × Lined (now names) (now ranks) ⌝ }
+    requires { ⌜ Slacks (now slacks) n m × (total ≡ size (bySlacks (now slacks) n m)) × Listed (now names) (now ranks) ⌝ }
     ensures { λ r. ⌜ Numbered n m (now (names .exit)) (now (ranks .exit)) ⌝ }
     ensures { λ r. ⌜ (r ≡ true → Ranked (bySlacks (now (slacks .entry)) n m)
         (λ i. getD (now (ranks .exit)) i 0) (λ j. getD (now (ranks .exit)) (32 + j) 0)) ⌝ }
@@ -143,7 +133,8 @@ pub fn rank(
             return true;
         }
     }
-    number(names);
-    number(ranks);
+    let plain = numbers();
+    *names = plain;
+    *ranks = plain;
     false
 }

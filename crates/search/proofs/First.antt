@@ -1,29 +1,29 @@
 -- What the search keeps at first: all eligible pairs are left, none is marked, and each lot is to be asked.
 use mathlib.Core.Path.{_≡_, refl, sym, _∙_, ap}
 use mathlib.Core.Logic.{by-cases}
-use mathlib.Core.Bool.{Bool, true, false, cond, not, true≢false, Bool-discrete}
+use mathlib.Core.Bool.{Bool, true, false, cond, true≢false, Bool-discrete}
 use mathlib.Core.List.{List}
 use Prim.Native.Nat.{ℕ, suc, _+_, _*_, _≤_, _<_}
-use native.Mathlib.Decide.{decLt, ℕ-discrete}
+use native.Mathlib.Decide.{decLt}
 use native.Mathlib.Omega.{arith}
-use borrow.Author.Tests.{eq-eqb, ne-eqb, eqb-true}
-use lib.Dec.{eqb, not-T}
+use borrow.Author.Tests.{eq-eqb, eqb-true, not-true, not-false}
+use lib.Dec.{eqb}
 use lib.ListN.{length, getD, replicate, length-replicate, List·getD-eq-default}
 use Rattle.specification.specs.Costs.{costTop}
 use Rattle.specification.specs.Book.{bit}
 use Rattle.book.specs.Table.{entry}
-use Rattle.slacks.specs.Slacks.{remains, bySlacks, Slacks, Eligible}
-use Rattle.slacks.proofs.BySlacks.{zeros-at, remains-says, admits-is, size-few}
+use Rattle.slacks.specs.Slacks.{bySlacks}
+use Rattle.slacks.proofs.BySlacks.{zeros-at, admits-is, size-few}
 use Rattle.slacks.proofs.Going.{Going, going-start}
 use Rattle.transport.specs.Finder.{size}
-use Rattle.transport.proofs.Laws.Tests.{T-of, T-true, F-of, false-of}
+use Rattle.transport.proofs.Laws.Tests.{T-true, false-of}
 use Rattle.words.specs.Words.{Below}
 use Rattle.words.specs.Lefts.{isLeft}
 use Rattle.words.proofs.Sets.{bit-none, bit-all}
 use Rattle.ranks.specs.Numbered.{Plain}
 use Rattle.lines.specs.Lines.{Lined, Ended, Settled}
 use Rattle.trial.specs.Testing.{raisedOf, Raised}
-use Rattle.trial.specs.Left.{Table, Left}
+use Rattle.trial.specs.Left.{Table}
 use Rattle.search.specs.Marks.{Half, Asked, Standing}
 
 -- no mark stands at first
@@ -50,35 +50,27 @@ module _ {ranked : Bool} {slacks : List ℕ} {n m : ℕ} {names ranks eligible :
       let k = t .numbered in
       let lots = k .lots-named in
       let calls = k .calls-named in
-      let hx : i < 32 = omega (arith, k .lots-few) in
-      let hy : j < 32 = omega (arith, k .calls-few) in
       record {
-        lot-few = hx;
-        call-few = hy;
-        by-rank = record { is-on = moved e hi (calls .rank-below j hj) (λ a r. (refl, omega (arith, r (32 + j) (omega arith)))); named = calls .at-rank j hj };
-        by-name = record { is-on = moved e hi (calls .at-below j hj) (λ a r. (refl, omega (arith, a (32 + j) (omega arith)))); named = calls .rank-at j hj };
-        lot-by-rank = (moved e (lots .rank-below i hi) hj (λ a r. (omega (arith, r i (omega arith)), refl)), lots .at-rank i hi);
-        lot-by-name = (moved e (lots .at-below i hi) hj (λ a r. (omega (arith, a i (omega arith)), refl)), lots .rank-at i hi);
+        lot-few = omega (arith, hi, k .lots-few);
+        call-few = omega (arith, hj, k .calls-few);
+        by-rank = record { is-on = moved e hi (calls .rank-below j hj) (λ a r. (refl, omega (arith, r (32 + j) (omega (arith, hj, k .calls-few))))); named = calls .at-rank j hj };
+        by-name = record { is-on = moved e hi (calls .at-below j hj) (λ a r. (refl, omega (arith, a (32 + j) (omega (arith, hj, k .calls-few))))); named = calls .rank-at j hj };
+        lot-by-rank = (moved e (lots .rank-below i hi) hj (λ a r. (omega (arith, r i (omega (arith, hi, k .lots-few))), refl)), lots .at-rank i hi);
+        lot-by-name = (moved e (lots .at-below i hi) hj (λ a r. (omega (arith, a i (omega (arith, hi, k .lots-few))), refl)), lots .rank-at i hi);
       }
 
-  -- a pair without slack is not left, and one that is left has slack
-  slack-of : (i l : ℕ) → isLeft eligible i l ≡ true → 0 < entry slacks i l
-  slack-of i l e =
-      let (hi, hl) = t .eligible-are .inside i l e in
-      remains-says slacks i l (T-of (sym (t .eligible-are .each i l hi hl) ∙ e))
-
+  -- a pair that is not eligible has no slack
   no-slack : (i l : ℕ) → i < n → l < 32 → isLeft eligible i l ≡ false → entry slacks i l ≡ 0
   no-slack i l hi hl e = by-cases (decLt l m)
-      (λ b. zero (entry slacks i l) (sym (t .eligible-are .each i l hi b) ∙ e))
+      (λ b. eqb-true (entry slacks i l) 0 (not-false (eqb (entry slacks i l) 0) (sym (t .eligible-are .each i l hi b) ∙ e)))
       (λ b. t .slacks-are .beyond i l hi (omega arith) hl)
-    where
-      zero : (v : ℕ) → not (eqb v 0) ≡ false → v ≡ 0
-      zero v f = by-cases (ℕ-discrete v 0) (λ z. z) (λ z. absurd (true≢false (sym (ap not (ne-eqb v 0 z)) ∙ f)))
 
   raised-first : (raised : List ℕ) → ((x : ℕ) → x < 1024 → getD raised x 0 ≡ raisedOf (getD slacks x 0)) → length raised ≡ 1024
       → Raised slacks eligible raised
   raised-first raised h long = record {
-    on = λ i l hi hl e. h (32 * i + l) (omega arith) ∙ rw (ne-eqb (entry slacks i l) 0 (λ z. omega (arith, slack-of i l e, z)));
+    on = λ i l hi hl e.
+        let (hi, hj) = t .eligible-are .inside i l e in
+        h (32 * i + l) (omega arith) ∙ rw (not-true (eqb (entry slacks i l) 0) (sym (t .eligible-are .each i l hi hj) ∙ e));
     gone = λ i j l on hl e.
         let hi = t .eligible-are .inside i j on .0 in
         h (32 * i + l) (omega (arith, t .slacks-are .lots-few)) ∙ rw (eq-eqb (entry slacks i l) 0 (no-slack i l hi hl e));
@@ -88,8 +80,7 @@ module _ {ranked : Bool} {slacks : List ℕ} {n m : ℕ} {names ranks eligible :
   }
     where
       raised-le : (b : Bool) (v : ℕ) → cond b 0 (v + suc costTop) ≤ v + suc costTop
-      raised-le true v = omega arith
-      raised-le false v = omega arith
+      raised-le b v = elim b [ true ↦ omega arith | false ↦ omega arith ]
 
   module _ {lines nears fars raised : List ℕ} (lined : Lined names ranks eligible lines) (ended : Ended names lines nears fars)
       (raises : ranked ≡ false → (x : ℕ) → x < 1024 → getD raised x 0 ≡ raisedOf (getD slacks x 0)) (long : length raised ≡ 1024) where

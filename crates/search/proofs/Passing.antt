@@ -4,19 +4,18 @@ use mathlib.Core.Path.{_≡_, sym, _∙_}
 use mathlib.Core.Bool.{Bool, true}
 use mathlib.Core.List.{List}
 use mathlib.Core.Option.{some, none}
-use Prim.Native.Nat.{ℕ, _+_, _*_, _<_}
+use Prim.Native.Nat.{ℕ, _+_, _*_}
 use native.Mathlib.Omega.{arith}
 use Rattle.transport.specs.Problem.{Problem}
 use Rattle.transport.specs.Greedy.{pair}
 use Rattle.transport.specs.Finder.{next}
 use Rattle.transport.proofs.Laws.Tests.{T-true, T-of}
 use Rattle.transport.proofs.Laws.Sets.{Remains}
-use Rattle.transport.proofs.Orders.Monge.{Fits}
 use Rattle.transport.proofs.Finder.Free.{Takeable, next-is}
 use Rattle.slacks.specs.Slacks.{bySlacks, Capped}
 use Rattle.slacks.proofs.BySlacks.{admits-is}
 use Rattle.words.specs.Lefts.{isLeft}
-use Rattle.trial.specs.Testing.{Fitting, Passes}
+use Rattle.trial.specs.Testing.{Passes}
 use Rattle.trial.specs.Left.{Table, Left}
 use Rattle.search.specs.Steps.{FirstPair}
 
@@ -33,34 +32,23 @@ module _ {ranked : Bool} {slacks : List ℕ} {n m : ℕ} {names ranks eligible l
   left-in i j e = let (hi, hj) = t .eligible-are .inside i j (h .among i j e) in (hi, hj, T-of e)
 
   -- (i, j) fits with (k, l) by the slacks exactly where it does in the problem
-  module _ (i j k l : ℕ) (hk : k < n) (hl : l < m) where
-    fits-of : Fitting slacks i j k l → Fits P i j k l
-    fits-of f = record {
-      admitted = T-of (admits-is slacks n m k l hk hl ∙ f .has-slack);
-      no-dearer = omega (arith, f .no-dearer, capped (32 * i + j), capped (32 * k + l), capped (32 * i + l), capped (32 * k + j));
-    }
-
-    fitting-of : Fits P i j k l → Fitting slacks i j k l
-    fitting-of f = record {
-      has-slack = sym (admits-is slacks n m k l hk hl) ∙ T-true (P .admits k l) (f .admitted);
-      no-dearer = omega (arith, f .no-dearer, capped (32 * i + j), capped (32 * k + l), capped (32 * i + l), capped (32 * k + j));
-    }
-
   takeable-of : (i j : ℕ) → Passes slacks lefts i j → Takeable P (isLeft lefts) i j
   takeable-of i j p = record {
     remains = left-in i j (p .on);
-    unhindered = λ k l il kj.
-        fits-of i j k l (kj .0) (il .1) (p .passed k .fits (T-true (isLeft lefts k j) (kj .2)) l (T-true (isLeft lefts i l) (il .2)));
+    unhindered = λ k l il kj. let f = p .passed k .fits (T-true (isLeft lefts k j) (kj .2)) l (T-true (isLeft lefts i l) (il .2)) in record {
+      admitted = T-of (admits-is slacks n m k l (kj .0) (il .1) ∙ f .has-slack);
+      no-dearer = omega (arith, f .no-dearer, capped (32 * i + j), capped (32 * k + l), capped (32 * i + l), capped (32 * k + j));
+    };
   }
 
   passes-of : (i j : ℕ) → Takeable P (isLeft lefts) i j → Passes slacks lefts i j
-  passes-of i j f = record {
-    on = T-true (isLeft lefts i j) (f .remains .2);
+  passes-of i j t = record {
+    on = T-true (isLeft lefts i j) (t .remains .2);
     passed = λ k. record {
-      fits = λ held l on.
-          let il = left-in i l on in
-          let kj = left-in k j held in
-          fitting-of i j k l (kj .0) (il .1) (f .unhindered k l il kj);
+      fits = λ held l on. let f = t .unhindered k l (left-in i l on) (left-in k j held) in record {
+        has-slack = sym (admits-is slacks n m k l (left-in k j held .0) (left-in i l on .1)) ∙ T-true (P .admits k l) (f .admitted);
+        no-dearer = omega (arith, f .no-dearer, capped (32 * i + j), capped (32 * k + l), capped (32 * i + l), capped (32 * k + j));
+      };
     };
   }
 

@@ -1,7 +1,7 @@
 -- The marks with a call taken back, lot by lot: those of the lots passed are, and no other.
-use mathlib.Core.Path.{_≡_, refl, ap, _∙_, subst, subst⁻¹, fun-ext}
+use mathlib.Core.Path.{_≡_, refl, ap, _∙_, subst, fun-ext}
 use mathlib.Core.Logic.{by-cases}
-use mathlib.Core.Bool.{Bool, true, false, not, _&&_, _||_, and-true, and-not-self, or-false}
+use mathlib.Core.Bool.{Bool, true, not, _&&_, _||_, and-true, and-not-self, or-false}
 use mathlib.Core.List.{List}
 use Prim.Native.Nat.{ℕ, _<_}
 use native.Mathlib.Decide.{ℕ-discrete}
@@ -40,12 +40,11 @@ module _ {j lots : ℕ} {low-gone high-gone : Bool} {low high : List ℕ} where
   pub releasing-none : Releasing j lots lots low-gone high-gone low low high high 0
   releasing-none = record {
     among = λ k e. e;
-    released = subst⁻¹ (λ (some : ℕ → Bool). Released j some low-gone high-gone low low high high 0) (fun-ext (λ k. and-not-self (bit lots k)))
-        (record { low-cleared = same; high-cleared = same; still = bit-none });
+    released = record { low-cleared = same; high-cleared = same; still = λ k. rw (and-not-self (bit lots k)) (bit-none k) };
   }
     where
-      same : {gone : Bool} {marks : List ℕ} → Cleared j (λ k. false) gone marks marks
-      same = record { each = λ k. record { own = refl; others = λ l d. refl }; long = refl }
+      same : {gone : Bool} {marks : List ℕ} → Cleared j (passed lots lots) gone marks marks
+      same = record { each = λ k. rw (and-not-self (bit lots k)) (record { own = refl; others = λ l d. refl }); long = refl }
 
   module _ {low′ high′ : List ℕ} {left still : ℕ} (r : Releasing j lots left low-gone high-gone low low′ high high′ still) where
     pub releasing-more : {k x y left′ still′ : ℕ} {test : Bool} → k < length low′ → k < length high′ → bit left k ≡ true → Without left k left′

@@ -1,21 +1,22 @@
 -- What stands once a pair is taken: what was left is left but for the pair, and a mark that stays has what it had to hinder its pair.
-use mathlib.Core.Path.{_≡_, refl, sym, ap, _∙_, subst}
+use mathlib.Core.Path.{_≡_, sym, ap, _∙_}
 use mathlib.Core.Logic.{⊎-elim, by-cases}
-use mathlib.Core.Bool.{Bool, true, false, _||_, true≢false}
+use mathlib.Core.Bool.{Bool, true, true≢false}
 use mathlib.Core.List.{List}
 use Prim.Native.Nat.{ℕ, _+_, _*_, _<_}
 use native.Mathlib.Decide.{ℕ-discrete}
 use native.Mathlib.Omega.{arith}
 use lib.ListN.{length, getD, set, length-set}
 use lib.Seq.{getD-set-same, getD-set-other}
+use Rattle.transport.proofs.Laws.Tests.{false-of}
 use Rattle.specification.specs.Book.{bit}
 use Rattle.words.specs.Words.{Either}
-use Rattle.words.specs.Lefts.{isLeft, TakenFrom}
+use Rattle.words.specs.Lefts.{TakenFrom}
 use Rattle.words.proofs.Lefts.{same-pair, gone, stays, fewer}
 use Rattle.lines.specs.Lines.{EndsKept}
 use Rattle.trial.specs.Testing.{Raised}
-use Rattle.search.specs.Marks.{Waiting, Half, Asked, Standing}
-use Rattle.search.specs.Steps.{MayGo, Fewer, Taken}
+use Rattle.search.specs.Marks.{Half, Asked, Standing}
+use Rattle.search.specs.Steps.{Fewer, Taken}
 
 module _ {i j : ℕ} {lefts lefts′ : List ℕ} (t : TakenFrom i j lefts lefts′) where
   -- the raised slack of the pair is 0
@@ -33,17 +34,17 @@ module _ {i j : ℕ} {lefts lefts′ : List ℕ} (t : TakenFrom i j lefts lefts�
       other a l hl d = getD-set-other raised (32 * i + j) (32 * a + l) 0 0 (λ z. d (omega arith, omega arith))
 
   -- what hinders a pair whose mark stays is left, and by ranks it stays at the ends
-  half-then : {ranked row column : Bool} {slacks nears nears′ fars fars′ waits waits′ marks marks′ : List ℕ} → Half ranked slacks lefts nears fars waits marks
-      → EndsKept i j lefts′ nears nears′ → EndsKept i j lefts′ fars fars′ → MayGo ranked (getD nears i 0) j row → MayGo ranked (getD fars (32 + j) 0) i column
-      → Fewer i j row column marks marks′ → Waiting waits′ marks′ → Half ranked slacks lefts′ nears′ fars′ waits′ marks′
-  half-then {nears = nears} {fars = fars} {marks′ = marks′} h n f r c less w = record {
+  half-then : {ranked : Bool} {slacks nears nears′ fars fars′ waits waits′ marks marks′ : List ℕ} → Half ranked slacks lefts nears fars waits marks
+      → EndsKept i j lefts′ nears nears′ → EndsKept i j lefts′ fars fars′ → Fewer ranked i j (getD nears i 0) (getD fars (32 + j) 0) waits′ marks marks′
+      → Half ranked slacks lefts′ nears′ fars′ waits′ marks′
+  half-then {nears = nears} {fars = fars} h n f less = record {
     hindered = λ a l e m.
         let x = h .hindered a l (fewer t a l e) (less .fewer a l m) in
         let in-row : (a ≡ i) × (x .call ≡ j) → ⊥ = λ (y, z).
-        let (by-ranks, other) = r .stays (less .row-stays l (subst (λ (a : ℕ). isLeft marks′ a l ≡ true) y m)) in
+        let (by-ranks, other) = less .row-stays l (rw y at m) in
         other (ap (λ (a : ℕ). getD nears a 0) (sym y) ∙ sym (x .cornered by-ranks .1) ∙ z) in
         let in-column : (x .lot ≡ i) × (l ≡ j) → ⊥ = λ (y, z).
-        let (by-ranks, other) = c .stays (less .column-stays a (subst (λ (l : ℕ). isLeft marks′ a l ≡ true) z m)) in
+        let (by-ranks, other) = less .column-stays a (rw z at m) in
         other (ap (λ (l : ℕ). getD fars (32 + l) 0) (sym z) ∙ sym (x .cornered by-ranks .0) ∙ y) in
         record {
           lot = x .lot;
@@ -58,13 +59,13 @@ module _ {i j : ℕ} {lefts lefts′ : List ℕ} (t : TakenFrom i j lefts lefts�
             z ∙ sym (n .row a l e (λ (u, v). in-row (u, z ∙ v))),
           );
         };
-    waits-are = w;
+    waits-are = less .waits-are;
   }
 
 -- all that is kept, and the lots to be asked
-module _ {ranked : Bool} {names ranks : List ℕ} {i j : ℕ} {lefts lefts′ lines′ nears nears′ fars fars′ raised raised′ waits waits′ low low′ high high′ : List ℕ} {again : ℕ}
-    (t : Taken ranked names ranks i j lefts lefts′ lines′ nears nears′ fars fars′ raised raised′ waits waits′ low low′ high high′ again) where
-  pub standing-then : {slacks eligible lines passed : List ℕ} → i < 32 → j < 32
+module _ {ranked : Bool} {names ranks : List ℕ} {i j : ℕ} {lefts lefts′ lines′ nears nears′ fars fars′ raised raised′ waits′ low low′ high high′ : List ℕ} {again : ℕ}
+    (t : Taken ranked names ranks i j lefts lefts′ lines′ nears nears′ fars fars′ raised raised′ waits′ low low′ high high′ again) where
+  pub standing-then : {slacks eligible lines passed waits : List ℕ} → i < 32 → j < 32
       → Standing ranked slacks names ranks eligible lefts lines nears fars raised passed waits low high
       → Standing ranked slacks names ranks eligible lefts′ lines′ nears′ fars′ raised′ passed waits′ low′ high′
   standing-then hi hj s = let from = t .from-lot in
@@ -83,18 +84,16 @@ module _ {ranked : Bool} {names ranks : List ℕ} {i j : ℕ} {lefts lefts′ li
           long = s .passed-is .long;
         };
         marks = record {
-          low-half = half-then from (s .marks .low-half) (t .nears-kept) (t .fars-kept) (t .low-row-goes) (t .low-column-goes) (u .low-fewer) (u .low-waits);
-          high-half = half-then from (s .marks .high-half) (t .fars-kept) (t .nears-kept) (t .high-row-goes) (t .high-column-goes) (u .high-fewer) (u .high-waits);
+          low-half = half-then from (s .marks .low-half) (t .nears-kept) (t .fars-kept) (u .low-fewer);
+          high-half = half-then from (s .marks .high-half) (t .fars-kept) (t .nears-kept) (u .high-fewer);
           waits-long = u .waits-long;
         };
       }
 
   pub asked-then : {some some′ : ℕ} → Asked lefts low high some → bit some i ≡ true → Either some again some′ → Asked lefts′ low′ high′ some′
   asked-then {some} asked own more = record {
-    each = λ k l e o. let (x, y) = neither (bit some k) (bit again k) (sym (more .each k) ∙ o) in
-        t .unmarked .asked k l (λ z. true≢false (sym own ∙ ap (bit some) (sym z) ∙ x)) y (asked .each k l (fewer (t .from-lot) k l e) x);
+    each = λ k l e o.
+        let off = false-of (bit some k) (λ on. true≢false (sym (rw on at (more .each k)) ∙ o)) in
+        t .unmarked .asked k l (λ z. true≢false (sym own ∙ ap (bit some) (sym z) ∙ off)) (sym (rw off at (more .each k)) ∙ o)
+        (asked .each k l (fewer (t .from-lot) k l e) off);
   }
-    where
-      neither : (a b : Bool) → (a || b) ≡ false → (a ≡ false) × (b ≡ false)
-      neither true b e = absurd (true≢false e)
-      neither false b e = (refl, e)

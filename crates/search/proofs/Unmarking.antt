@@ -3,7 +3,7 @@ use mathlib.Core.Path.{_≡_, refl, sym, ap, _∙_}
 use mathlib.Core.Logic.{_⊎_, inl, inr, ⊎-elim, by-cases}
 use mathlib.Core.Bool.{Bool, true, false, cond, not, _&&_, _||_, true≢false, or-true, Bool-discrete}
 use mathlib.Core.List.{List}
-use Prim.Native.Nat.{ℕ, _<_}
+use Prim.Native.Nat.{ℕ, _+_, _<_}
 use native.Mathlib.Decide.{ℕ-discrete}
 use native.Mathlib.Omega.{arith}
 use borrow.Author.Tests.{not-false}
@@ -15,20 +15,12 @@ use Rattle.words.specs.Words.{Minus, Either}
 use Rattle.words.specs.Lefts.{isLeft}
 use Rattle.words.proofs.Sets.{bit-none}
 use Rattle.search.specs.Marks.{Waiting, marked}
-use Rattle.search.specs.Steps.{Cleared, Released, Fewer, Unmarked}
+use Rattle.search.specs.Steps.{MayGo, Cleared, Released, Fewer, Unmarked}
 
--- the lots whose marks with the call are looked at: all that wait there, or none where the column stays
-pub record Looked (waits lots : ℕ) (column : Bool) : Type 0 where
-  pub among : (k : ℕ) → bit lots k ≡ true → bit waits k ≡ true
-  pub all : column ≡ true → lots ≡ waits
-
-pub looked : (r : Bool) {waits lots : ℕ} {column : Bool} → lots ≡ cond r 0 waits → (r ≡ true → column ≡ false) → Looked waits lots column
-looked true e f = record { among = λ k o. absurd (true≢false (sym o ∙ rw e (bit-none k))); all = λ t. absurd (true≢false (sym t ∙ f refl)) }
-looked false e f = record { among = λ k o. rw e at o; all = λ t. e }
-
--- a half
-module _ {i j : ℕ} (row : Bool) {column : Bool} {waits marks marks′ : List ℕ} {word lots : ℕ} (hi : i < 32) (h : Waiting waits marks)
-    (looked : Looked (getD waits j 0) lots column) (emptied : word ≡ cond row 0 (getD marks i 0)) (c : Cleared j (bit lots) column (set marks i word) marks′) where
+-- a half: all that wait at the call are looked at, unless its column stays
+module _ {ranked : Bool} {i j row-end column-end : ℕ} {row column : Bool} {waits marks marks′ : List ℕ} {word lots : ℕ} (hi : i < 32) (h : Waiting waits marks)
+    (r : MayGo ranked row-end j row) (g : MayGo ranked column-end i column) (looked : column ≡ true → lots ≡ getD waits j 0)
+    (emptied : word ≡ cond row 0 (getD marks i 0)) (c : Cleared j (bit lots) column (set marks i word) marks′) where
   -- but in the row, and at the call for the lots that are looked at, nothing changed
   others-stay : (k l : ℕ) → (k ≡ i → ⊥) → (l ≡ j → ⊥) ⊎ (bit lots k ≡ false) → isLeft marks′ k l ≡ isLeft marks k l
   others-stay k l d o = by-cases (ℕ-discrete l j)
@@ -53,52 +45,47 @@ module _ {i j : ℕ} (row : Bool) {column : Bool} {waits marks marks′ : List �
       in-row true e = absurd (true≢false (sym e ∙ bit-none l))
       in-row false e = (refl, e)
 
-  half-fewer : Fewer i j row column marks marks′
-  half-fewer = record {
-    fewer = λ k l e. was k l e .0;
-    row-stays = λ l e. was i l e .1 refl;
-    column-stays = λ k e. false-of column (λ t.
-        let on : bit lots k ≡ true = rw (looked .all t) (h .waiting k j (was k j e .0)) in
-        true≢false (sym e ∙ c .each k .own ∙ rw (on, t)));
-  }
-
   -- the lots of the marks that stay wait at the call
-  half-waits : (still after : ℕ) → j < length waits → ((k : ℕ) → bit lots k ≡ true → isLeft marks′ k j ≡ true → bit still k ≡ true)
-      → ((k : ℕ) → bit after k ≡ ((bit (getD waits j 0) k && not (bit lots k)) || bit still k)) → Waiting (set waits j after) marks′
-  half-waits still after hj s w = record {
-    waiting = λ k l e. by-cases (ℕ-discrete l j)
-        (λ z. rw (z, getD-set-same waits j after 0 hj) (let m = rw z at e in w k ∙ there k (h .waiting k j (was k j m .0)) m))
-        (λ d. rw (getD-set-other waits j l after 0 d) (h .waiting k l (was k l e .0)));
-    long = c .long ∙ length-set marks i word ∙ h .long;
+  half-fewer : {rest still after : ℕ} → j < length waits → Minus (getD waits j 0) lots rest → Either rest still after
+      → ((k : ℕ) → bit lots k ≡ true → isLeft marks′ k j ≡ true → bit still k ≡ true) → Fewer ranked i j row-end column-end (set waits j after) marks marks′
+  half-fewer {rest} {after = after} hj d u s = record {
+    fewer = λ k l e. was k l e .0;
+    row-stays = λ l e. r .stays (was i l e .1 refl);
+    column-stays = λ k e. g .stays (false-of column (λ t.
+        let on : bit lots k ≡ true = rw (looked t) (h .waiting k j (was k j e .0)) in
+        true≢false (sym e ∙ c .each k .own ∙ rw (on, t))));
+    waits-are = record {
+      waiting = λ k l e. by-cases (ℕ-discrete l j)
+          (λ z. rw (z, getD-set-same waits j after 0 hj) (there k (rw z at e)))
+          (λ d. rw (getD-set-other waits j l after 0 d) (h .waiting k l (was k l e .0)));
+      long = c .long ∙ length-set marks i word ∙ h .long;
+    };
   }
     where
-      there : (k : ℕ) → isLeft waits j k ≡ true → isLeft marks′ k j ≡ true → ((isLeft waits j k && not (bit lots k)) || bit still k) ≡ true
-      there k on m = by-cases (Bool-discrete (bit lots k) true)
-          (λ y. rw (s k y m) (or-true (isLeft waits j k && not (bit lots k))))
-          (λ y. rw (on, false-of (bit lots k) y))
+      there : (k : ℕ) → isLeft marks′ k j ≡ true → bit after k ≡ true
+      there k m = u .each k ∙ by-cases (Bool-discrete (bit lots k) true)
+          (λ y. rw (s k y m) (or-true (bit rest k)))
+          (λ y. rw (d .each k, h .waiting k j (was k j m .0), false-of (bit lots k) y))
 
 -- both
-pub unmarked : {i j : ℕ} {low-row low-column high-row high-column : Bool} {waits low low′ high high′ : List ℕ} {x y lots rest still after again : ℕ} → i < 32 → j < 32
-    → Waiting waits low → Waiting waits high → length waits ≡ 32 → x ≡ cond low-row 0 (getD low i 0) → y ≡ cond high-row 0 (getD high i 0)
-    → Looked (getD waits j 0) lots low-column → Looked (getD waits j 0) lots high-column
+pub unmarked : {ranked : Bool} {i j : ℕ} {low-row low-column high-row high-column some : Bool} {nears fars waits low low′ high high′ : List ℕ} {x y lots rest still after again : ℕ}
+    → i < 32 → j < 32 → Waiting waits low → Waiting waits high → length waits ≡ 32
+    → MayGo ranked (getD nears i 0) j low-row → MayGo ranked (getD fars (32 + j) 0) i low-column
+    → MayGo ranked (getD fars i 0) j high-row → MayGo ranked (getD nears (32 + j) 0) i high-column
+    → x ≡ cond low-row 0 (getD low i 0) → y ≡ cond high-row 0 (getD high i 0) → lots ≡ cond (not some) 0 (getD waits j 0) → some ≡ (low-column || high-column)
     → Released j (bit lots) low-column high-column (set low i x) low′ (set high i y) high′ still
     → Minus (getD waits j 0) lots rest → Either rest still after → Minus lots still again
-    → Unmarked i j low-row low-column high-row high-column waits (set waits j after) low low′ high high′ again
-unmarked {i} {j} {low-row} {high-row = high-row} {waits} {low} {low′} {high} {high′} {lots = lots} {still = still} {after = after} {again = again} hi hj wl wh long el eh gl gh r d u m = record {
-  low-fewer = half-fewer low-row hi wl gl el (r .low-cleared);
-  high-fewer = half-fewer high-row hi wh gh eh (r .high-cleared);
-  low-waits = half-waits low-row hi wl gl el (r .low-cleared) still after (omega arith) (λ k o e. r .still k ∙ rw (o, e)) put;
-  high-waits = half-waits high-row hi wh gh eh (r .high-cleared) still after (omega arith) (λ k o e. r .still k ∙ rw (o, e) (or-true (isLeft low′ k j))) put;
+    → Unmarked ranked i j nears fars (set waits j after) low low′ high high′ again
+unmarked {i = i} {j} {low-column = low-column} {waits = waits} {low} {low′} {high} {high′} {lots = lots} {still = still} {after} {again} hi hj wl wh long lr lc hr hc el eh e f r d u m = record {
+  low-fewer = half-fewer hi wl lr lc (λ t. e ∙ rw (f, t)) el (r .low-cleared) (omega arith) d u (λ k o e. r .still k ∙ rw (o, e));
+  high-fewer = half-fewer hi wh hr hc (λ t. e ∙ rw (f, t, or-true low-column)) eh (r .high-cleared) (omega arith) d u (λ k o e. r .still k ∙ rw (o, e) (or-true (isLeft low′ k j)));
   waits-long = length-set waits j after ∙ long;
-  asked = λ k l f o e. by-cases (Bool-discrete (bit lots k) true)
+  asked = λ k l d o q. by-cases (Bool-discrete (bit lots k) true)
       (λ on. by-cases (ℕ-discrete l j)
       (λ z. rw z (sym (rw on at (r .still k)) ∙ not-false (bit still k) (sym (rw on at (m .each k)) ∙ o)))
-      (λ z. same k l f (inl z) e))
-      (λ off. same k l f (inr (false-of (bit lots k) off)) e);
+      (λ z. same k l d (inl z) q))
+      (λ off. same k l d (inr (false-of (bit lots k) off)) q);
 }
   where
-    put : (k : ℕ) → bit after k ≡ ((bit (getD waits j 0) k && not (bit lots k)) || bit still k)
-    put k = u .each k ∙ ap (λ (b : Bool). b || bit still k) (d .each k)
-
     same : (k l : ℕ) → (k ≡ i → ⊥) → (l ≡ j → ⊥) ⊎ (bit lots k ≡ false) → marked low high k l ≡ true → marked low′ high′ k l ≡ true
-    same k l f o e = rw (others-stay low-row hi wl gl el (r .low-cleared) k l f o, others-stay high-row hi wh gh eh (r .high-cleared) k l f o) e
+    same k l d o q = rw (others-stay hi wl lr lc (λ t. e ∙ rw (f, t)) el (r .low-cleared) k l d o, others-stay hi wh hr hc (λ t. e ∙ rw (f, t, or-true low-column)) eh (r .high-cleared) k l d o) q

@@ -1,5 +1,5 @@
--- The marks of hindered pairs: each lot has a word of calls for either half, and each call the word of the lots whose pairs with it are marked. A
--- pair that is marked is not tried again until what hinders it may be gone.
+-- The marks of hindered pairs: each lot has a word of calls for either half. Each call has a word of the lots that wait at it: all those whose pairs
+-- with it are marked, and maybe others. A pair that is marked is not tried again until what hinders it may be gone.
 use mathlib.Core.Path.{_≡_}
 use mathlib.Core.Bool.{Bool, true, false, _||_}
 use mathlib.Core.List.{List}

@@ -12,39 +12,15 @@ use words::including_if;
 use words::lowest;
 use words::minus;
 use words::without;
-ghost use mathlib.Core.Path.{_≡_};
-ghost use mathlib.Core.Bool.{true};
 ghost use Prim.Native.Nat.{_<_};
-ghost use lib.ListN.{length};
 ghost use Rattle.trial.specs.Left.{Tabled};
 ghost use Rattle.search.specs.Marks.{Asked, Standing};
-ghost use Rattle.search.specs.Steps.{PutIf, FirstCall, NextIs};
+ghost use Rattle.search.specs.Steps.{FirstCall, NextIs};
 
 // The next pair, with the lots that are still to be asked, or that there is none.
 pub enum Next {
     Pair(Lot, Call, u32),
     Nothing,
-}
-
-// The pair is marked in the halves that are told, and its lot waits at its call.
-fn mark(
-    lot: Lot,
-    call: Call,
-    in_low: bool,
-    in_high: bool,
-    waits: &mut [u32; SIDE],
-    low: &mut [u32; SIDE],
-    high: &mut [u32; SIDE],
-)
-    requires { ⌜ (lot .0 < 32) × (call .0 < 32) × (length (now waits) ≡ 32) × (length (now low) ≡ 32) × (length (now high) ≡ 32) ⌝ }
-    ensures { λ _. ⌜ PutIf true (call .0) (lot .0) (now (waits .entry)) (now (waits .exit)) ⌝ }
-    ensures { λ _. ⌜ PutIf «in_low» (lot .0) (call .0) (now (low .entry)) (now (low .exit)) × PutIf «in_high» (lot .0) (call .0) (now (high .entry)) (now (high .exit)) ⌝ }
-{
-    let i = lot.0;
-    let j = call.0;
-    waits[j] = including(waits[j], i);
-    low[i] = including_if(in_low, low[i], j);
-    high[i] = including_if(in_high, high[i], j);
 }
 
 // The lowest call whose pair with lot i is free, or `SIDE`. Only pairs without a mark are tried, and each that is hindered is marked.
@@ -94,7 +70,10 @@ fn first_call(
         let Trial::Hindered(in_low, in_high) = answer else {
             return j;
         };
-        mark(Lot(i), Call(j), in_low, in_high, waits, low, high);
+        // The pair is marked in the halves that are told, and its lot waits at its call.
+        waits[j] = including(waits[j], i);
+        low[i] = including_if(in_low, low[i], j);
+        high[i] = including_if(in_high, high[i], j);
         asks = without(asks, j);
     }
     SIDE

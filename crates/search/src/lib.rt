@@ -53,7 +53,8 @@ pub fn find_pairs(
     let mut passed: [u8; PAIRS] = [0; PAIRS];
     // By lot: the calls left to it.
     let mut lefts = eligible;
-    // By call: the lots whose pairs with it are marked. By lot: the calls whose pairs are, in the low half and in the high half.
+    // By lot: the calls whose pairs are marked, in the low half and in the high half. By call: the lots that wait at it, all whose pairs with it
+    // are marked and maybe others.
     let mut waits: [u32; SIDE] = [0; SIDE];
     let mut low: [u32; SIDE] = [0; SIDE];
     let mut high: [u32; SIDE] = [0; SIDE];

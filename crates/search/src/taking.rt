@@ -1,5 +1,6 @@
-// A pair taken. What is known of a half may be gone, in the row of its lot where the pair was the near end, and in the column of its call where
-// it was the far end; without ranks, in the whole row and column. These marks are taken back, and the lots that had them are to be asked again.
+// A pair taken. What hinders pairs in the low half may be gone, in the row of its lot where the pair was the near end, and in the column of its
+// call where it was the far end; in the high half, near and far are exchanged; without ranks, always. These marks are taken back, and the lots
+// that have none left with the call are to be asked again.
 use files::wide;
 use lines::lose;
 use ranks::LINES;
@@ -14,33 +15,20 @@ use words::lowest;
 use words::minus;
 use words::without;
 ghost use mathlib.Core.Path.{_≡_};
-ghost use mathlib.Core.Bool.{true, false, cond};
+ghost use mathlib.Core.Bool.{true, cond};
 ghost use Prim.Native.Nat.{_<_};
 ghost use lib.ListN.{length};
 ghost use Rattle.specification.specs.Book.{bit};
 ghost use Rattle.words.specs.Lefts.{isLeft};
 ghost use Rattle.lines.specs.Lines.{Lined, Ended};
 ghost use Rattle.search.specs.Marks.{Waiting};
-ghost use Rattle.search.specs.Steps.{MayGo, WithoutIf, Released, Unmarked, Taken};
+ghost use Rattle.search.specs.Steps.{MayGo, WithoutIf, Released, Taken};
 
 // Whether what hinders pairs at the end of a line may be gone with x: it is that end, or there are no ranks.
 fn may_go(ranked: bool, end: u8, x: usize) -> bool
     ensures { λ r. ⌜ MayGo ranked end x r ⌝ }
 {
-    if ranked {
-        return wide(end) == x;
-    }
-    true
-}
-
-// Whether neither half is gone.
-fn stays(low_gone: bool, high_gone: bool) -> bool
-    ensures { λ r. ⌜ (r ≡ true → («low_gone» ≡ false) × («high_gone» ≡ false)) ⌝ }
-{
-    if low_gone {
-        return false;
-    }
-    !high_gone
+    !ranked || wide(end) == x
 }
 
 // The word, or none of it where it is gone.
@@ -84,33 +72,7 @@ fn release(
     still
 }
 
-// The marks that may be gone with the pair are taken back: in each half those of its lot, and those with its call. The lots that lost one with the call.
-fn unmark(
-    lot: Lot,
-    call: Call,
-    low_row: bool,
-    low_col: bool,
-    high_row: bool,
-    high_col: bool,
-    waits: &mut [u32; SIDE],
-    low: &mut [u32; SIDE],
-    high: &mut [u32; SIDE],
-) -> u32
-    requires { ⌜ (lot .0 < 32) × (call .0 < 32) × Waiting (now waits) (now low) × Waiting (now waits) (now high) × (length (now waits) ≡ 32) ⌝ }
-    ensures { λ r. ⌜ Unmarked (lot .0) (call .0) «low_row» «low_col» «high_row» «high_col» (now (waits .entry)) (now (waits .exit)) (now (low .entry)) (now (low .exit))
-        (now (high .entry)) (now (high .exit)) r ⌝ }
-{
-    let i = lot.0;
-    let j = call.0;
-    low[i] = unless(low_row, low[i]);
-    high[i] = unless(high_row, high[i]);
-    let lots = unless(stays(low_col, high_col), waits[j]);
-    let still = release(lots, j, low_col, high_col, low, high);
-    waits[j] = either(minus(waits[j], lots), still);
-    minus(lots, still)
-}
-
-// The pair is taken: the lots to be asked then, beside those in `some`.
+// The pair is taken. The lots to be asked then, beside those that were still to be asked.
 pub fn take_pair(
     ranked: bool,
     names: &[u8; LINES],
@@ -131,7 +93,7 @@ pub fn take_pair(
     requires { ⌜ Waiting (now waits) (now low) × Waiting (now waits) (now high) × (length (now waits) ≡ 32) × (length (now raised) ≡ 1024) ⌝ }
     ensures { λ r. ⌜ Taken ranked (now (names .entry)) (now (ranks .entry)) (lot .0) (call .0) (now (lefts .entry)) (now (lefts .exit)) (now (lines .exit))
         (now (nears .entry)) (now (nears .exit)) (now (fars .entry)) (now (fars .exit)) (now (raised .entry)) (now (raised .exit))
-        (now (waits .entry)) (now (waits .exit)) (now (low .entry)) (now (low .exit)) (now (high .entry)) (now (high .exit)) r ⌝ }
+        (now (waits .exit)) (now (low .entry)) (now (low .exit)) (now (high .entry)) (now (high .exit)) r ⌝ }
 {
     let i = lot.0;
     let j = call.0;
@@ -141,15 +103,12 @@ pub fn take_pair(
     let high_col = may_go(ranked, nears[SIDE + j], i);
     lose(names, ranks, Lot(i), Call(j), lefts, lines, nears, fars);
     raised[SIDE * i + j] = 0;
-    unmark(
-        lot,
-        call,
-        low_row,
-        low_col,
-        high_row,
-        high_col,
-        waits,
-        low,
-        high,
-    )
+    // The marks that may be gone with the pair are taken back: in each half those of its lot, and those with its call.
+    low[i] = unless(low_row, low[i]);
+    high[i] = unless(high_row, high[i]);
+    let lots = unless(!(low_col || high_col), waits[j]);
+    let still = release(lots, j, low_col, high_col, low, high);
+    waits[j] = either(minus(waits[j], lots), still);
+    // The lots that waited at the call and have no mark with it any more.
+    minus(lots, still)
 }

@@ -1,6 +1,6 @@
 -- Laws of filling the table of slacks from a book's rows. The costs of a lot stand behind its word, one for each set bit, so the byte of a
 -- cost grows by four with each slack that is entered; clear bits are passed over, since the table is 0 there (`Reached`). With all lots
--- entered the table states the book's problem (`filled-same`, `filled-slacks`), and with an idle call the enlarged one (`filled-idle`).
+-- entered the table has the book's slacks (`slack-here`) and is as it is to be (`filled-slacks`, `filled-words`).
 use mathlib.Core.Path.{_≡_, sym, _∙_, ap}
 use mathlib.Core.Logic.{by-cases}
 use mathlib.Core.Bool.{true, false, true≢false}
@@ -10,16 +10,14 @@ use native.Mathlib.Nat.{mod-eq-of-lt, lt-of-lt-of-le}
 use native.Mathlib.Decide.{decLt}
 use native.Mathlib.Omega.{arith}
 use borrow.Author.Count.{below-more}
+use borrow.Author.Needs.{needs}
 use lib.Count.{ones}
 use lib.Pow.{pow-mono}
-use lib.ListN.{length, getD, set, replicate, length-set, length-replicate}
+use lib.ListN.{length, set, replicate, length-set, length-replicate}
 use lib.Seq.{getD-set-same, getD-set-other}
-use Rattle.transport.specs.Idle.{withIdle}
-use Rattle.transport.proofs.Finder.Same.{Same}
 use Rattle.specification.specs.Bytes.{u32At}
-use Rattle.specification.specs.Costs.{costLimit, costTop}
-use Rattle.specification.specs.Book.{bit, rowWord, rowCost, bookVersion, bookLots, bookCalls, rowAt, rowStart, problemOf}
-use Rattle.specification.specs.Idle.{enlarged}
+use Rattle.specification.specs.Costs.{costTop}
+use Rattle.specification.specs.Book.{bit, rowWord, rowCost, bookVersion, bookLots, bookCalls, rowAt, rowStart, costStart}
 use Rattle.specification.proofs.Numbers.{u32-drop}
 use Rattle.specification.proofs.Rows.{RowRead}
 use Rattle.specification.proofs.Books.{book-length}
@@ -29,10 +27,10 @@ use Rattle.book.specs.Table.{entry, raisedAt}
 use Rattle.rows.proofs.Bits.{ones-below-none, ones-below-set, ones-below-clear, ones-below-all, bit-past, bit-below}
 use Rattle.book.proofs.Readable.{Read, read-of}
 use Rattle.words.proofs.Sets.{bit-none}
-use Rattle.slacks.specs.Slacks.{slackIn, bySlacks, Slacks, Eligible}
+use Rattle.slacks.specs.Slacks.{slackIn, Slacks, Eligible}
 use Rattle.slacks.specs.Filling.{Filled, Reached}
 use Rattle.slacks.proofs.BySlacks.{zeros-at}
-use Rattle.slacks.proofs.Filled.{raised-low, slack-le, set-slack, stated-same, stated-idle}
+use Rattle.slacks.proofs.Filled.{row-known, raised-low, slack-le, set-remains}
 
 -- ---- a list filled from the front
 module _ {Holds : ℕ → ℕ → Type 0} {before : List ℕ} where
@@ -47,14 +45,6 @@ module _ {Holds : ℕ → ℕ → Type 0} {before : List ℕ} where
           (rw (getD-set-same after x v 0 (omega (arith, f .long))) holds);
       ahead = λ y l. getD-set-other after x y v 0 (λ e. omega arith) ∙ f .ahead y (omega arith);
       long = length-set after x v ∙ f .long;
-    }
-
-    -- entries that are as they are to be
-    filled-past : (z : ℕ) → x ≤ z → ((y : ℕ) → x ≤ y → y < z → Holds y (getD before y 0)) → Filled Holds z before after
-    filled-past z le same = record {
-      passed = λ y l. by-cases (decLt y x) (f .passed y) (λ ge. rw (f .ahead y (omega arith)) (same y (omega arith) l));
-      ahead = λ y l. f .ahead y (omega arith);
-      long = f .long;
     }
 
 -- the number of a pair has the lot and the call
@@ -105,90 +95,67 @@ module _ {book : List ℕ} {i j next : ℕ} {slacks : List ℕ} (r : Reached boo
       let held : u32At book next ≡ rowCost (rowAt book i) j = rw (r .next-is) (cost-held book i j) in
       let (q, s) = numbered i j few in
       let up : 32 * i + j + 1 ≡ 32 * i + (j + 1) = omega arith in
-      record {
-        fits = fits;
-        short = omega arith;
-        inside = omega arith;
-        low = rw held (raised-low row j set-here);
-        entered = record {
-          is-readable = r .is-readable;
-          bounded = omega arith;
-          next-is = omega (arith, r .next-is);
-          entered = rw up at (filled-more (r .entered) (suc costTop - raisedAt book next)
-              (omega (arith, length-replicate {A = ℕ} 1024 0)) (rw (q, s, held, set-here)));
-        };
-      }
+      let more = rw up at (filled-more (r .entered) (suc costTop - raisedAt book next)
+      (omega (arith, length-replicate {A = ℕ} 1024 0)) (rw (q, s, held, set-here))) in
+      let next-is : next + 4 ≡ costStart book i (j + 1) = omega (arith, r .next-is) in
+      record { fits = fits; short = omega arith; inside = omega arith; low = rw held (raised-low row j set-here); entered = search needs }
 
   -- clear bits have none
   passed-over : (l : ℕ) → j ≤ l → l ≤ 32 → ((k : ℕ) → j ≤ k → k < l → bit word k ≡ false)
       → Filled (λ x slack. slack ≡ slackIn book (x / 32) (x % 32)) (32 * i + l) (replicate 1024 0) slacks
-  passed-over l le few clear = filled-past (r .entered) (32 * i + l) (omega arith) (λ y h h′.
-      let q : y / 32 ≡ i = omega arith in
-      rw (zeros-at 1024 y, q, clear (y % 32) (omega arith) (omega arith)))
+  passed-over l le few clear = record {
+    passed = λ y h. by-cases (decLt y (32 * i + j)) (r .entered .passed y) (λ ge.
+        let q : y / 32 ≡ i = omega arith in
+        rw (r .entered .ahead y (omega arith), zeros-at 1024 y, q, clear (y % 32) (omega arith) (omega arith)));
+    ahead = λ y h. r .entered .ahead y (omega arith);
+    long = r .entered .long;
+  }
 
   -- up to the next set bit
   pub reached-to : {l : ℕ} → SetFrom word j l → Reached book i l next slacks
   reached-to {l} from =
       let le = from .not-below (r .bounded) in
       let up : j + (l - j) ≡ l = omega arith in
-      record {
-        is-readable = r .is-readable;
-        bounded = from .within;
-        next-is = omega (arith, r .next-is, rw up at (ones-below-clear word j (l - j) (λ k a b. from .clear k a (omega arith))));
-        entered = passed-over l le (from .within) (from .clear);
-      }
+      let same = rw up at (ones-below-clear word j (l - j) (λ k a b. from .clear k a (omega arith))) in
+      let next-is : next ≡ costStart book i l = omega (arith, r .next-is) in
+      let entered = passed-over l le (from .within) (from .clear) in
+      search needs
 
   -- with all calls passed, `next` is where the next row starts
   pub reached-all : bookCalls book ≤ j → Reached book (i + 1) 0 (next + 4) slacks
   reached-all h =
       let last : 32 * i + 32 ≡ 32 * (i + 1) + 0 = omega arith in
       let below : (k : ℕ) → j ≤ k → word < 2 ^ k = λ k l. lt-of-lt-of-le (row .word-below) (pow-mono (omega arith)) in
-      record {
-        is-readable = r .is-readable;
-        bounded = omega arith;
-        next-is = omega (arith, r .next-is, start-next book i, ones-below-none (rowWord (rowAt book (i + 1))), ap ones (mod-eq-of-lt (below j (omega arith))));
-        entered = rw last at (passed-over 32 (r .bounded) (omega arith) (λ k l l′. bit-past word k (below k l)));
-      }
+      let whole = ap ones (mod-eq-of-lt (below j (omega arith))) in
+      let next-is : next + 4 ≡ costStart book (i + 1) 0 = omega (arith, r .next-is, start-next book i, ones-below-none (rowWord (rowAt book (i + 1)))) in
+      let entered = rw last at (passed-over 32 (r .bounded) (omega arith) (λ k l l′. bit-past word k (below k l))) in
+      search needs
 
 -- ---- all lots
 module _ {book : List ℕ} {n m next : ℕ} {slacks : List ℕ} (r : Read book n m) (all : Reached book n 0 next slacks) where
-  few-calls : m ≤ 32
-  few-calls = omega (arith, r .calls-is, r .known .calls-within)
-
-  row-of : (i : ℕ) → i < n → RowRead (rowAt book i) (bookVersion book) (bookCalls book)
-  row-of i hi = r .known .row i (omega (arith, r .lots-is))
-
   slack-at : (i j : ℕ) → i < n → j < 32 → entry slacks i j ≡ slackIn book i j
-  slack-at i j hi hj =
-      let (q, s) = numbered i j hj in
-      rw (q, s) at (all .entered .passed (32 * i + j) (omega arith))
+  slack-at i j hi hj = let (q, s) = numbered i j hj in rw (q, s) at (all .entered .passed (32 * i + j) (omega arith))
 
-  slack-here : (i j : ℕ) → i < n → j < m → entry slacks i j ≡ slackIn book i j
-  slack-here i j hi hj = slack-at i j hi (omega (arith, few-calls))
-
-  pub filled-same : Same (problemOf book) (bySlacks slacks n m)
-  filled-same = stated-same r (entry slacks) slack-here
-
-  pub filled-idle : Same (enlarged book) (withIdle costLimit (bySlacks slacks n m))
-  filled-idle = stated-idle r (entry slacks) slack-here
+  pub slack-here : (i j : ℕ) → i < n → j < m → entry slacks i j ≡ slackIn book i j
+  slack-here i j hi hj = slack-at i j hi (omega (arith, r .calls-is, r .known .calls-within))
 
   pub filled-slacks : Slacks slacks n m
   filled-slacks = record {
     lots-few = omega (arith, r .lots-is, r .known .lots-within);
-    calls-few = few-calls;
+    calls-few = omega (arith, r .calls-is, r .known .calls-within);
     capped = λ x. by-cases (decLt x (32 * n))
         (λ h. omega (arith, all .entered .passed x (omega arith), slack-le book (x / 32) (x % 32)))
         (λ h. omega (arith, all .entered .ahead x (omega arith), zeros-at 1024 x));
-    beyond = λ i j hi hm hj. slack-at i j hi hj ∙ rw (bit-past (rowWord (rowAt book i)) j (lt-of-lt-of-le (row-of i hi .word-below) (pow-mono (omega (arith, r .calls-is)))));
+    beyond = λ i j hi hm hj. slack-at i j hi hj ∙ rw (bit-past (rowWord (rowAt book i)) j (lt-of-lt-of-le (row-known r i hi .word-below) (pow-mono (omega (arith, r .calls-is)))));
     long = all .entered .long ∙ length-replicate {A = ℕ} 1024 0;
   }
 
   -- the words are those of the book's rows
   pub filled-words : {words : List ℕ} → Filled (λ i word. word ≡ rowWord (rowAt book i)) n (replicate 32 0) words → Eligible slacks n m words
   filled-words {words} f = record {
-    each = λ i j hi hj. rw (f .passed i hi, slack-here i j hi hj) (set-slack book i j (row-of i hi));
+    each = λ i j hi hj. rw (f .passed i hi) (set-remains r (entry slacks) slack-here i j hi hj);
     inside = λ i j t. by-cases (decLt i n)
-        (λ hi. (hi, omega (arith, r .calls-is, bit-below (rowWord (rowAt book i)) j (bookCalls book) (rw (f .passed i hi) at t) (row-of i hi .word-below))))
+        (λ hi. (hi, omega (arith, r .calls-is, bit-below (rowWord (rowAt book i)) j (bookCalls book) (rw (f .passed i hi) at t) (row-known r i hi .word-below))))
         (λ h. absurd (true≢false (sym t ∙ rw (f .ahead i (omega arith), zeros-at 32 i) (bit-none j))));
     long = f .long ∙ length-replicate {A = ℕ} 32 0;
   }

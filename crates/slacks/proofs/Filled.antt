@@ -25,6 +25,9 @@ use Rattle.rows.proofs.Bits.{bit-below}
 use Rattle.book.proofs.Readable.{Read}
 use Rattle.slacks.specs.Slacks.{slackIn, bySlack}
 
+pub row-known : {book : List ℕ} {n m : ℕ} → Read book n m → (i : ℕ) → i < n → RowRead (rowAt book i) (bookVersion book) (bookCalls book)
+row-known r i hi = r .known .row i (omega (arith, r .lots-is))
+
 -- the cost of a set bit is in its version's range, so with the limit added it is at most the top
 pub raised-low : {row : List ℕ} {version calls : ℕ} → RowRead row version calls → (j : ℕ) → bit (rowWord row) j ≡ true
     → liftedCost costLimit (rowCost row j) ≤ costTop
@@ -35,24 +38,17 @@ pub slack-le : (book : List ℕ) (i j : ℕ) → slackIn book i j ≤ suc costTo
 slack-le book i j =
     omega (arith, counted-le (bit (rowWord (rowAt book i)) j) (suc costTop - liftedCost costLimit (rowCost (rowAt book i) j)))
 
--- a pair has slack exactly where its bit is set
-pub set-slack : (book : List ℕ) (i j : ℕ) {version calls : ℕ} → RowRead (rowAt book i) version calls
-    → bit (rowWord (rowAt book i)) j ≡ not (eqb (slackIn book i j) 0)
-set-slack book i j row = go (bit (rowWord (rowAt book i)) j) refl
-  where
-    go : (b : Bool) → bit (rowWord (rowAt book i)) j ≡ b → bit (rowWord (rowAt book i)) j ≡ not (eqb (slackIn book i j) 0)
-    go false e = rw e
-    go true e =
-        let low = raised-low row j e in
-        rw e (rw (ne-eqb (suc costTop - liftedCost costLimit (rowCost (rowAt book i) j)) 0 (λ q. omega arith)))
-
 module _ {book : List ℕ} {n m : ℕ} (r : Read book n m) (slack : ℕ → ℕ → ℕ)
     (slack-is : (i j : ℕ) → i < n → j < m → slack i j ≡ slackIn book i j) where
-  row-known : (i : ℕ) → i < n → RowRead (rowAt book i) (bookVersion book) (bookCalls book)
-  row-known i hi = r .known .row i (omega (arith, r .lots-is))
-
+  -- a pair has slack exactly where its bit is set
   pub set-remains : (i j : ℕ) → i < n → j < m → bit (rowWord (rowAt book i)) j ≡ not (eqb (slack i j) 0)
-  set-remains i j hi hj = rw (slack-is i j hi hj) (set-slack book i j (row-known i hi))
+  set-remains i j hi hj = rw (slack-is i j hi hj) (go (bit (rowWord (rowAt book i)) j) refl)
+    where
+      go : (b : Bool) → bit (rowWord (rowAt book i)) j ≡ b → bit (rowWord (rowAt book i)) j ≡ not (eqb (slackIn book i j) 0)
+      go false e = rw e
+      go true e =
+          let low = raised-low (row-known r i hi) j e in
+          rw e (rw (ne-eqb (suc costTop - liftedCost costLimit (rowCost (rowAt book i) j)) 0 (λ q. omega arith)))
 
   -- its cost by the slack is that of the book's problem, with what the base lacks of the limit
   cost-raised : (i j : ℕ) → Eligible (problemOf book) i j
@@ -67,8 +63,8 @@ module _ {book : List ℕ} {n m : ℕ} (r : Read book n m) (slack : ℕ → ℕ 
         arith,
         slack-is i j ni (omega (arith, r .calls-is)),
         counted-of b (suc costTop - liftedCost costLimit (rowCost (rowAt book i) j)) here,
-        raised-low (row-known i ni) j (T-true b here),
-        raised-is (bookVersion book) (rowCost (rowAt book i) j) (row-known i ni .costs-within j hj here),
+        raised-low (row-known r i ni) j (T-true b here),
+        raised-is (bookVersion book) (rowCost (rowAt book i) j) (row-known r i ni .costs-within j hj here),
       )
 
   pub stated-same : Same (problemOf book) (bySlack slack n m)

@@ -19,14 +19,11 @@ use Rattle.slacks.specs.Found.{Finds}
 use Rattle.slacks.specs.declared.Search.the-variants.{Found, Nothing}
 
 -- two bytes more
-pub pair-put : (bytes : List ℕ) (k a b : ℕ) → k + 1 < length bytes
-    → take (k + 2) (set (set bytes k a) (k + 1) b) ≡ take k bytes ++ (a ∷ b ∷ [])
+pub pair-put : (bytes : List ℕ) (k a b : ℕ) → 2 * k + 1 < length bytes
+    → take (2 * (k + 1)) (set (set bytes (2 * k) a) (2 * k + 1) b) ≡ take (2 * k) bytes ++ (a ∷ b ∷ [])
 pair-put bytes k a b h =
-    let e : k + 2 ≡ suc (suc k) = omega arith in
-    rw (e, add-one)
-    (take-suc-set (set bytes k a) (suc k) b (simp length-set (omega arith))
-    ∙ ap (λ (l : List ℕ). l ++ (b ∷ [])) (take-suc-set bytes k a (omega arith))
-    ∙ append-assoc (take k bytes) (a ∷ []) (b ∷ []))
+    let e : 2 * (k + 1) ≡ suc (2 * k + 1) = omega arith in
+    rw (e, take-suc-set (set bytes (2 * k) a) (2 * k + 1) b (simp length-set (omega arith)), add-one, take-suc-set bytes (2 * k) a (omega arith), append-assoc)
 
 pairBytes-more : (S : List Pair) (p : Pair) → pairBytes (S ++ (p ∷ [])) ≡ pairBytes S ++ (p .lot ∷ p .call ∷ [])
 unfolding pairBytes

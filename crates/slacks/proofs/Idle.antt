@@ -1,14 +1,15 @@
 -- Laws of the idle call: a table of slacks with the slack of a cost of 0 for each lot at call m states the enlarged problem, and the lots' words
 -- with call m are those of that table.
-use mathlib.Core.Path.{_≡_, refl, sym, _∙_, ap, subst}
+use mathlib.Core.Path.{_≡_, refl, sym, _∙_, ap}
 use mathlib.Core.Logic.{by-cases, ⊎-elim}
 use mathlib.Core.Bool.{true}
 use mathlib.Core.List.{List}
-use Prim.Native.Nat.{ℕ, suc, _+_, _*_, _-_, _<_}
+use Prim.Native.Nat.{ℕ, suc, _+_, _*_, _-_, _≤_, _<_}
 use native.Mathlib.Numerals.{add-one}
 use native.Mathlib.Decide.{ℕ-discrete, decLt}
 use native.Mathlib.Omega.{arith}
 use borrow.Author.Count.{below-more}
+use borrow.Author.Needs.{needs}
 use lib.ListN.{length, getD, set, length-set}
 use lib.Seq.{getD-set-same, getD-set-other}
 use Rattle.transport.specs.Idle.{withIdle}
@@ -33,43 +34,26 @@ pub record Idled (m i : ℕ) (before after words words′ : List ℕ) : Type 0 w
 
 module _ {before words : List ℕ} {n m : ℕ} (s : Slacks before n m) (w : Eligible before n m words) (few : m < 32) where
   pub idled-none : Idled m 0 before before words words
-  idled-none = record {
-    own = λ k h. absurd (omega arith);
-    others = λ k j h ne. refl;
-    capped = s .capped;
-    long = s .long;
-    included = filled-none refl;
-  }
+  idled-none = record { own = λ k h. absurd (omega arith); others = λ k j h ne. refl; capped = s .capped; long = s .long; included = filled-none refl }
 
   module _ {i : ℕ} {after words′ : List ℕ} (d : Idled m i before after words words′) where
     pub idled-more : (v : ℕ) → i < n → IncludingIf true (getD words′ i 0) m v
         → Idled m (i + 1) before (set after (32 * i + m) (suc costLimit)) words (set words′ i v)
-    idled-more v hi inc = record {
+    idled-more v hi inc = let at = 32 * i + m in let inside : at < length after = omega (arith, s .lots-few, d .long) in record {
       own = below-more _ _
           (λ k l. getD-set-other after at (32 * k + m) (suc costLimit) 0 (λ e. omega arith) ∙ d .own k l)
           (getD-set-same after at (suc costLimit) 0 inside);
       others = λ k j h ne. getD-set-other after at (32 * k + j) (suc costLimit) 0 (λ e. ne (omega arith)) ∙ d .others k j h ne;
       capped = capped-set after at (suc costLimit) (d .capped) (omega arith) inside;
       long = length-set after at (suc costLimit) ∙ d .long;
-      included = filled-more (d .included) v (omega (arith, s .lots-few, w .long))
-          (subst (λ (x : ℕ). IncludingIf true x m v) (d .included .ahead i (omega arith)) inc);
+      included = filled-more (d .included) v (omega (arith, s .lots-few, w .long)) (rw (d .included .ahead i (omega arith)) at inc);
     }
-      where
-        at : ℕ
-        at = 32 * i + m
-
-        inside : 32 * i + m < length after
-        inside = omega (arith, s .lots-few, d .long)
 
   module _ {after words′ : List ℕ} (d : Idled m n before after words words′) where
     pub idle-slacks : Slacks after n (m + 1)
-    idle-slacks = record {
-      lots-few = s .lots-few;
-      calls-few = omega arith;
-      capped = d .capped;
-      beyond = λ i j hi hm hj. d .others i j hj (λ e. omega arith) ∙ s .beyond i j hi (omega arith) hj;
-      long = d .long;
-    }
+    idle-slacks =
+        let beyond : (i j : ℕ) → i < n → m + 1 ≤ j → j < 32 → entry after i j ≡ 0 = λ i j hi hm hj. d .others i j hj (λ e. omega arith) ∙ s .beyond i j hi (omega arith) hj in
+        search needs
 
     pub idle-words : Eligible after n (m + 1) words′
     idle-words = record {
@@ -77,12 +61,7 @@ module _ {before words : List ℕ} {n m : ℕ} (s : Slacks before n m) (w : Elig
           (λ e. rw (e, d .own i hi) (inc .own))
           (λ ne. rw (d .others i j (omega arith) ne) (inc .others j ne ∙ w .each i j hi (omega arith)));
       inside = λ i j t. by-cases (decLt i n)
-          (λ hi. (
-            hi,
-            by-cases (ℕ-discrete j m)
-                (λ e. omega arith)
-                (λ ne. omega (arith, w .inside i j (sym (d .included .passed i hi .others j ne) ∙ t))),
-          ))
+          (λ hi. (hi, by-cases (ℕ-discrete j m) (λ e. omega arith) (λ ne. omega (arith, w .inside i j (sym (d .included .passed i hi .others j ne) ∙ t)))))
           (λ h. absurd (h (w .inside i j (rw (d .included .ahead i (omega arith)) at t) .0)));
       long = d .included .long ∙ w .long;
     }

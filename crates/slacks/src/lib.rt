@@ -1,5 +1,5 @@
-// What the searches for an order share. They go through a table of slacks: how far a pair's cost lies below one more than the limit, at `SIDE` times
-// lot plus call, and 0 where the pair is not eligible. They answer with the bytes of the pairs that they found.
+// What ranks and the search for an order go by, a table of slacks: how far a pair's cost lies below one more than the limit, at `SIDE` times lot
+// plus call, and 0 where the pair is not eligible. The search answers with the bytes of the pairs that it found.
 pub mod filling;
 
 use specification::COST_LIMIT;

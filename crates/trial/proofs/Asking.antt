@@ -1,6 +1,6 @@
 -- The lots that are asked about a pair, without ranks: when a lot hinders it and when it lets it pass, and which are still to be asked once some
 -- were.
-use mathlib.Core.Path.{_≡_, refl, sym, _∙_, ap, subst, subst⁻¹}
+use mathlib.Core.Path.{_≡_, refl, sym, _∙_, ap, subst⁻¹}
 use mathlib.Core.Logic.{⊎-elim, by-cases}
 use mathlib.Core.Bool.{Bool, true, false, not, and-true, true≢false, Bool-discrete}
 use mathlib.Core.List.{List}
@@ -20,33 +20,38 @@ use Rattle.words.proofs.Sets.{bit-none}
 use Rattle.words.proofs.Ends.{lowest-le}
 use Rattle.words.proofs.Changes.{was-in}
 use Rattle.words.proofs.Lefts.{same-pair}
-use Rattle.trial.specs.Testing.{Fitting, LetsPass, Passes, Hinders, Misfits}
-use Rattle.trial.specs.Left.{Trying, ToAsk, Passed}
+use Rattle.trial.specs.Testing.{Fitting, LetsPass, Passes, Misfits}
+use Rattle.trial.specs.Left.{Trying, Halves, ToAsk, Passed}
 use Rattle.trial.proofs.Lefts.{cap, left-in, left-few, own-few, has-slack, on-line}
 
-module _ {slacks names ranks eligible lefts lines nears fars raised : List ℕ} {i j : ℕ}
-    (t : Trying false slacks names ranks eligible lefts lines nears fars raised i j) where
-  -- lot k, which still has call j: whether it is eligible for a call left to lot i
-  module _ (k : ℕ) (held : isLeft lefts k j ≡ true) where
+module _ {ranked : Bool} {slacks names ranks eligible lefts lines nears fars raised : List ℕ} {i j : ℕ}
+    (t : Trying ranked slacks names ranks eligible lefts lines nears fars raised i j) where
+  -- lot k, which still has call j: it hinders the pair at a call left to lot i, or lets it pass
+  module _ (k : ℕ) (held : isLeft lefts k j ≡ true) (plain : ranked ≡ false) where
     eligible-is : (l : ℕ) → isLeft lefts i l ≡ true → isLeft eligible k l ≡ remains slacks k l
     eligible-is l e = t .tabled .table .eligible-are .each k l (left-in t k j held .0) (left-in t i l e .1)
 
-    pub hinders-missing : {word : ℕ} → Minus (getD lefts i 0) (getD eligible k 0) word → 0 < word → (l : ℕ) × Hinders slacks lefts i j k l
+    hinders : (l : ℕ) → isLeft lefts i l ≡ true → (Fitting slacks i j k l → ⊥) → Halves ranked slacks lefts nears fars i j true false
+    hinders l left unfit = record {
+      low-told = λ y. record { lot = k; call = l; by-it = record { held = held; left = left; unfit = unfit }; cornered = λ z. absurd (true≢false (sym z ∙ plain)) };
+      high-told = λ y. absurd (true≢false (sym y));
+      told = refl;
+    }
+
+    pub hinders-missing : {word : ℕ} → Minus (getD lefts i 0) (getD eligible k 0) word → 0 < word → Halves ranked slacks lefts nears fars i j true false
     hinders-missing w h =
         let (l, low, hl) = w .some h in
         let on = sym (w .each l) ∙ low .is-in in
         let left = and-left (isLeft lefts i l) _ on in
-        let off = and-right (isLeft lefts i l) _ on in
-        (l, record { held = held; left = left; unfit = λ f. true≢false (sym off ∙ ap not (eligible-is l left ∙ f .has-slack)) })
+        hinders l left (λ f. true≢false (sym (and-right (isLeft lefts i l) _ on) ∙ ap not (eligible-is l left ∙ f .has-slack)))
 
-    pub hinders-misfit : {found : Bool} → Misfits slacks raised i j k 32 found → found ≡ true → (l : ℕ) × Hinders slacks lefts i j k l
+    pub hinders-misfit : {found : Bool} → Misfits slacks raised i j k 32 found → found ≡ true → Halves ranked slacks lefts nears fars i j true false
     hinders-misfit r h =
         let (l, hl, m) = r .some h in
-        let (hi, hj) = own-few t in
-        let q = t .left .raised-is refl in
+        let q = t .left .raised-is plain in
         by-cases (Bool-discrete (isLeft lefts i l) true)
-        (λ e. (l, record { held = held; left = e; unfit = λ f. omega (arith, m, q .on i l hi hl e, f .no-dearer) }))
-        (λ d. absurd (omega (arith, m, q .gone i j l (t .is-left) hl (false-of (isLeft lefts i l) d), cap t k j)))
+        (λ e. hinders l e (λ f. omega (arith, q .on i l (own-few t .0) hl e, f .no-dearer)))
+        (λ d. absurd (omega (arith, q .gone i j l (t .is-left) hl (false-of (isLeft lefts i l) d), cap t k j)))
 
     pub lets-pass : {word : ℕ} {found : Bool} → Minus (getD lefts i 0) (getD eligible k 0) word → word ≤ 0 → Misfits slacks raised i j k 32 found
         → found ≡ false → LetsPass slacks lefts i j k
@@ -55,7 +60,7 @@ module _ {slacks names ranks eligible lefts lines nears fars raised : List ℕ} 
           let none : word ≡ 0 = omega arith in
           record {
             has-slack = sym (eligible-is l on) ∙ not-false (isLeft eligible k l) (rw (on, none, bit-none l) at (sym (w .each l)));
-            no-dearer = omega (arith, r .none z l hl, t .left .raised-is refl .on i l hi hl on);
+            no-dearer = omega (arith, r .none z l hl, t .left .raised-is plain .on i l hi hl on);
           };
     }
 
@@ -73,50 +78,49 @@ module _ {slacks names ranks eligible lefts lines nears fars raised : List ℕ} 
   -- the others on the line of the call: its own lot lets the pair pass
   pub to-ask-others : {others : ℕ} → Without (getD lines (32 + j) 0) (getD ranks i 0) others → ToAsk slacks ranks lefts lines i j others
   to-ask-others w = record {
-    passed = λ k off. record {
-      fits = λ held. let (on, named) = on-line t k held in
-          by-cases (ℕ-discrete (getD ranks k 0) (getD ranks i 0))
-          (λ z. subst (LetsPass slacks lefts i j) (sym (on-line t i (t .is-left) .1) ∙ ap (λ (r : ℕ). getD names r 0) (sym z) ∙ named)
-          (record { fits = λ own l on. record { has-slack = has-slack t i l on; no-dearer = omega arith } }))
-          (λ d. absurd (true≢false (sym on ∙ sym (w .others (getD ranks k 0) d) ∙ off))) .fits held;
-    };
+    passed = λ k held off. let (on, named) = on-line t k held in
+        by-cases (ℕ-discrete (getD ranks k 0) (getD ranks i 0))
+        (λ z. let own : k ≡ i = cc (on-line t i (t .is-left) .1) in
+        rw own (record { fits = λ held l on. record { has-slack = has-slack t i l on; no-dearer = omega arith } }))
+        (λ d. absurd (true≢false (sym on ∙ sym (w .others (getD ranks k 0) d) ∙ off)));
     on-column = was-in w;
   }
 
   module _ {lots : ℕ} (h : ToAsk slacks ranks lefts lines i j lots) where
-    pub holder : (p : ℕ) → bit lots p ≡ true → isLeft lefts (getD names p 0) j ≡ true
-    holder p e = t .left .lined .column-of j p (own-few t .1) (h .on-column p e)
+    pub holder : {k p : ℕ} → k ≡ getD names p 0 → LowestIn lots p → isLeft lefts k j ≡ true
+    holder {k} {p} named low = rw named (t .left .lined .column-of j p (own-few t .1) (h .on-column p (low .is-in)))
 
     -- but those below the pair's number
     pub to-ask-from : {passed : List ℕ} {start below from : ℕ} → Passed slacks names lefts passed → start ≡ entry passed i j → Below lots start below
         → Minus lots below from → ToAsk slacks ranks lefts lines i j from
-    to-ask-from {passed} {start} {below} {from} g e b f = record {
-      passed = λ k off. by-cases (decLt (getD ranks k 0) start)
-          (λ lt. record {
-            fits = λ held. let (hi, hj) = own-few t in
-                subst (LetsPass slacks lefts i j) (on-line t k held .1) (g .each i j (getD ranks k 0) hi hj (omega arith)) .fits held;
-          })
-          (λ o. h .passed k (sym (and-true _) ∙ sym (f .each (getD ranks k 0) ∙ rw (b .none (getD ranks k 0) (omega arith))) ∙ off));
+    to-ask-from {passed} {start} g e b f = record {
+      passed = λ k held off. let (hi, hj) = own-few t in
+          by-cases (decLt (getD ranks k 0) start)
+          (λ lt. rw (on-line t k held .1) at (g .each i j (getD ranks k 0) hi hj (omega arith)))
+          (λ o. h .passed k held (sym (and-true _) ∙ sym (f .each (getD ranks k 0) ∙ rw (b .none (getD ranks k 0) (omega arith))) ∙ off));
       on-column = λ p e. h .on-column p (and-left (bit lots p) _ (sym (f .each p) ∙ e));
     }
 
     -- one let the pair pass
-    pub to-ask-next : {p after : ℕ} → LetsPass slacks lefts i j (getD names p 0) → Without lots p after → ToAsk slacks ranks lefts lines i j after
-    to-ask-next {p} {after} l w = record {
-      passed = λ k off. by-cases (ℕ-discrete (getD ranks k 0) p)
-          (λ z. record { fits = λ held. subst (LetsPass slacks lefts i j) (ap (λ (r : ℕ). getD names r 0) (sym z) ∙ on-line t k held .1) l .fits held })
-          (λ d. h .passed k (sym (w .others (getD ranks k 0) d) ∙ off));
+    pub to-ask-next : {k p after : ℕ} → k ≡ getD names p 0 → LetsPass slacks lefts i j k → Without lots p after → ToAsk slacks ranks lefts lines i j after
+    to-ask-next {k} {p} named l w = record {
+      passed = λ a held off. by-cases (ℕ-discrete (getD ranks a 0) p)
+          (λ z. let same : k ≡ a = cc (on-line t a held .1) in rw same at l)
+          (λ d. h .passed a held (sym (w .others (getD ranks a 0) d) ∙ off));
       on-column = λ q e. h .on-column q (was-in w q e);
     }
 
     -- all did
     pub passes-all : lots ≡ 0 → Passes slacks lefts i j
-    passes-all z = record { on = t .is-left; passed = λ k. h .passed k (ap (λ (v : ℕ). bit v (getD ranks k 0)) z ∙ bit-none (getD ranks k 0)) }
+    passes-all z = record {
+      on = t .is-left;
+      passed = λ k. record { fits = λ held. h .passed k held (rw z (bit-none (getD ranks k 0))) .fits held };
+    }
 
     -- the next does not: all of lower ranks do
     passes-lower : {p : ℕ} → LowestIn lots p → (q : ℕ) → q < p → LetsPass slacks lefts i j (getD names q 0)
     passes-lower {p} low q lt = record {
-      fits = λ held. h .passed (getD names q 0) (false-of (bit lots (getD ranks (getD names q 0) 0)) (λ e.
+      fits = λ held. h .passed (getD names q 0) held (false-of (bit lots (getD ranks (getD names q 0) 0)) (λ e.
           let r = t .tabled .table .numbered .lots-named in
           let few = r .rank-below (getD names q 0) (left-in t (getD names q 0) j held .0) in
           let le = lowest-le lots p (getD ranks (getD names q 0) 0) low e in

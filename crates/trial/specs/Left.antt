@@ -69,12 +69,7 @@ pub record Trying (ranked : Bool) (slacks names ranks eligible lefts lines nears
   pub left : Left ranked slacks names ranks eligible lefts lines nears fars raised
   pub is-left : isLeft lefts i j ≡ true
 
--- the ranks of the lots that are to be asked about (i, j): they are on the line of call j, and each lot of another rank lets it pass
+-- the ranks of the lots that are to be asked about (i, j): they are on the line of call j, and each other lot that has it lets the pair pass
 pub record ToAsk (slacks ranks lefts lines : List ℕ) (i j lots : ℕ) : Type 0 where
-  pub passed : (k : ℕ) → bit lots (getD ranks k 0) ≡ false → LetsPass slacks lefts i j k
+  pub passed : (k : ℕ) → isLeft lefts k j ≡ true → bit lots (getD ranks k 0) ≡ false → LetsPass slacks lefts i j k
   pub on-column : (p : ℕ) → bit lots p ≡ true → isLeft lines (32 + j) p ≡ true
-
--- they are to be asked, without ranks by which the costs are Monge
-abbrev pub Asking : List ℕ → List ℕ → List ℕ → List ℕ → ℕ → List ℕ → ℕ → ℕ → Type 0
-Asking slacks names eligible lefts lots raised i j = (ranks : List ℕ) × (lines : List ℕ) × (nears : List ℕ) × (fars : List ℕ)
-    × Trying false slacks names ranks eligible lefts lines nears fars raised i j × ToAsk slacks ranks lefts lines i j lots

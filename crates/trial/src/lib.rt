@@ -1,9 +1,6 @@
 // Whether a pair that is left is free. By ranks two corners decide. Else the lots that still have its call are asked, each by one pass over all
 // calls; lots that let it pass once do so for good, and are not asked again.
-mod lots;
-
 use files::wide;
-use lots::by_lots;
 use ranks::LINES;
 use slacks::PAIRS;
 use slacks::SIDE;
@@ -11,13 +8,17 @@ use slacks::SLACK_MOST;
 use slacks::entry_at;
 use specification::Call;
 use specification::Lot;
+use words::below;
+use words::lowest;
+use words::minus;
 use words::without;
 ghost use mathlib.Core.Path.{_≡_};
-ghost use mathlib.Core.Bool.{false};
-ghost use Prim.Native.Nat.{ℕ, _<_};
+ghost use mathlib.Core.Bool.{true, false};
+ghost use Prim.Native.Nat.{ℕ, suc, _+_, _*_, _≤_, _<_};
 ghost use lib.ListN.{length, getD, replicate};
+ghost use Rattle.specification.specs.Costs.{costTop};
 ghost use Rattle.slacks.specs.Slacks.{Capped};
-ghost use Rattle.trial.specs.Testing.{fitsBy, raisedOf};
+ghost use Rattle.trial.specs.Testing.{fitsBy, raisedOf, Misfits};
 ghost use Rattle.trial.specs.Left.{Trying, TrialOf, Passed};
 
 // What is told of a pair: that it is free, or whether it is hindered in the low half and in the high half.
@@ -35,11 +36,9 @@ pub fn raise(slacks: &[u32; PAIRS], ranked: bool, raised: &mut [u32; PAIRS])
     if ranked {
         return;
     }
-    let mut x = 0;
-    while x < PAIRS {
+    for x in 0..PAIRS {
         let slack = slacks[x];
         raised[x] = if slack == 0 { 0 } else { slack + SLACK_MOST };
-        x += 1;
     }
 }
 
@@ -48,16 +47,32 @@ fn fits(slacks: &[u32; PAIRS], lot: Lot, call: Call, k: u8, l: u8) -> bool
     requires { ⌜ (lot .0 < 32) × (call .0 < 32) × (k < 32) × (l < 32) × Capped (now slacks) ⌝ }
     ensures { λ r. ⌜ r ≡ fitsBy (now (slacks .entry)) (lot .0) (call .0) k l ⌝ }
 {
-    let i = lot.0;
-    let j = call.0;
     let other = k as usize;
     let corner = l as usize;
-    entry_at(slacks, i, corner) + entry_at(slacks, other, j)
-        <= entry_at(slacks, i, j) + entry_at(slacks, other, corner)
+    entry_at(slacks, lot.0, corner) + entry_at(slacks, other, call.0)
+        <= entry_at(slacks, lot.0, call.0) + entry_at(slacks, other, corner)
+}
+
+// Whether the pair (i, j) does not fit with lot k at a call left to lot i. All calls are tried, so that there is no branch. The slack of (k, j) is
+// taken off that of the pair, which is the same at all calls, and signed numbers are compared, which a processor does with several at a time.
+fn misfits(slacks: &[u32; PAIRS], raised: &[u32; PAIRS], lot: Lot, call: Call, other: Lot) -> bool
+    requires { ⌜ (lot .0 < 32) × (call .0 < 32) × (other .0 < 32) × Capped (now slacks) × ((x : ℕ) → getD (now raised) x 0 ≤ 2 * suc costTop) ⌝ }
+    ensures { λ r. ⌜ Misfits (now (slacks .entry)) (now (raised .entry)) (lot .0) (call .0) (other .0) 32 r ⌝ }
+{
+    let i = lot.0;
+    let j = call.0;
+    let k = other.0;
+    let own = entry_at(slacks, i, j) + SLACK_MOST - entry_at(slacks, k, j);
+    let mut found = false;
+    for l in 0..SIDE {
+        found = ((entry_at(slacks, k, l) + own) as i32) < (entry_at(raised, i, l) as i32) || found;
+    }
+    found
 }
 
 // Whether the pair, which is left, is free. By ranks: it fits with the last lot of its call at the first call of its lot, and with the first
-// lot at the last call.
+// lot at the last call. Else: it is the last of its lot, or no lot hinders it. The other lots of its call are asked by rank, from the one on
+// that hindered it before. A lot hinders it that is not eligible for a call left to its lot, or with which it does not fit at one.
 pub fn try_pair(
     slacks: &[u32; PAIRS],
     ranked: bool,
@@ -81,24 +96,27 @@ pub fn try_pair(
 {
     let i = lot.0;
     let j = call.0;
-    if !ranked {
-        let others = without(lines[SIDE + j], wide(ranks[i]));
-        return by_lots(
-            slacks,
-            names,
-            eligible,
-            lefts,
-            others,
-            raised,
-            Lot(i),
-            Call(j),
-            passed,
-        );
+    if ranked {
+        let low = fits(slacks, Lot(i), Call(j), fars[SIDE + j], nears[i]);
+        let high = fits(slacks, Lot(i), Call(j), nears[SIDE + j], fars[i]);
+        if low && high {
+            return Trial::Free;
+        }
+        return Trial::Hindered(!low, !high);
     }
-    let low = fits(slacks, Lot(i), Call(j), fars[SIDE + j], nears[i]);
-    let high = fits(slacks, Lot(i), Call(j), nears[SIDE + j], fars[i]);
-    if low && high {
+    if without(lefts[i], j) == 0 {
         return Trial::Free;
     }
-    Trial::Hindered(!low, !high)
+    let others = without(lines[SIDE + j], wide(ranks[i]));
+    let mut lots = minus(others, below(others, wide(passed[SIDE * i + j])));
+    while 0 < lots {
+        let p = lowest(lots);
+        let k = wide(names[p]);
+        if 0 < minus(lefts[i], eligible[k]) || misfits(slacks, raised, Lot(i), Call(j), Lot(k)) {
+            passed[SIDE * i + j] = p as u8;
+            return Trial::Hindered(true, false);
+        }
+        lots = without(lots, p);
+    }
+    Trial::Free
 }

@@ -1,14 +1,11 @@
 -- `lines::column_of` meets its contract. The invariant: the word has the lots passed that have the call.
-use mathlib.Core.Path.{sym, _∙_}
-use mathlib.Core.Logic.{by-cases}
+use mathlib.Core.Path.{_≡_}
 use Prim.Native.Nat.{_-_, _≤_}
-use native.Mathlib.Decide.{decLt}
 use native.Mathlib.Omega.{arith}
-use Rattle.transport.proofs.Laws.Tests.{false-of}
 use Rattle.words.specs.Words.{Begins}
 use Rattle.words.specs.Lefts.{isLeft}
 use Rattle.words.proofs.Changes.{begins-none, begins-more}
-use Rattle.lines.proofs.Laws.{left-in}
+use Rattle.lines.proofs.Laws.{all-with}
 use Rattle.lines.proofs.column_of.Statement.{statement}
 use Rattle.lines.proofs.column_of.Tie as tie
 
@@ -22,11 +19,9 @@ loop-again : tie.Need-loop-again Inv-loop μ-loop
 loop-again c = (omega arith, begins-more _ _ _ _ (c .before .before .before .before .loop .inv .1) (rw (c .before .is-set .ensures) at (c .including-if .ensures)))
 
 returns : tie.Need-returns Inv-loop μ-loop
-returns c i =
-    let b = c .before .loop .inv .1 in
-    by-cases (decLt i 32)
-    (λ h. b .first i (omega arith))
-    (λ o. b .none i (omega arith) ∙ sym (false-of _ (λ e. omega (arith, left-in (c .before .before .args .lefts .now) i _ e))))
+returns c =
+    let e : c .before .loop .i ≡ 32 = omega arith in
+    all-with (c .before .before .args .lefts .now) _ _ (c .before .before .pre) (rw e at (c .before .loop .inv .1))
 
 pub column-of-spec : {M : Type 1} → statement M
 column-of-spec =

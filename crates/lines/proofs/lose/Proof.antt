@@ -1,19 +1,11 @@
 -- `lines::lose` meets its contract: what is left and both lines lose the pair (`lost`).
-use Prim.Native.Nat.{_+_, _<_}
 use native.Mathlib.Nat.{zero-add}
 use native.Mathlib.Omega.{arith}
 use borrow.Author.Needs.{needs}
-use lib.ListN.{getD}
 use Rattle.words.proofs.Lefts.{taken-set}
 use Rattle.lines.proofs.Laws.{taken-line, lost}
 use Rattle.lines.proofs.lose.Statement.{statement}
 use Rattle.lines.proofs.lose.Tie as tie
-
--- the ranks of the pair
-few : (c : tie.Start) → (getD (c .args .ranks .now) (c .args .lot .0) 0 < 32) × (getD (c .args .ranks .now) (32 + c .args .call .0) 0 < 32)
-few c =
-    let k = c .pre .0 .0 in
-    (k .within _ _ (simp zero-add at (k .column _ _ (c .pre .1 .2) .is-on)), k .within _ _ (k .row _ _ (c .pre .1 .2) .is-on))
 
 returns : tie.Need-returns
 returns c =
@@ -44,14 +36,15 @@ lose-spec =
     (λ c. search needs)
     (λ c. search needs)
     (λ c κs. search needs)
-    (λ c κs. omega (arith, few (c .before .before .before .before .before)))
+    (λ c κs. let p = c .before .before .before .before .before .pre in omega (arith, p .0 .0 .within _ _ (p .0 .0 .row _ _ (p .1 .2) .is-on)))
     (λ c κs. search needs)
     (λ c. search needs)
     (λ c. search needs)
     (λ c. search needs)
     (λ c. search needs)
     (λ c κs. search needs)
-    (λ c κs. omega (arith, few (c .before .before .before .before .before .before .before .before .before .before .before .before .before)))
+    (λ c κs. let p = c .before .before .before .before .before .before .before .before .before .before .before .before .before .pre in
+    omega (arith, p .0 .0 .within _ _ (simp zero-add at (p .0 .0 .column _ _ (p .1 .2) .is-on))))
     (λ c. search needs)
     (λ c κs. search needs)
     returns)

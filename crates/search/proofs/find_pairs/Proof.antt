@@ -29,9 +29,6 @@ first-lines-requires c κs =
     let t = c .before .before .before .before .before .pre .0 in
     (settled-first t, (t .eligible-are .long, refl, refl, refl))
 
-raise-requires : tie.Need-raise-requires Inv-loop μ-loop
-raise-requires c κs = (c .before .before .before .before .before .before .before .pre .0 .slacks-are .capped, refl)
-
 loop-holds : tie.Need-loop-holds Inv-loop μ-loop
 loop-holds c =
     let p = c .before .before .before .before .before .before .before .before .before .pre in
@@ -43,9 +40,6 @@ next-pair-requires : tie.Need-next-pair-requires Inv-loop μ-loop
 next-pair-requires c κs =
     let inv = c .before .before .before .before .before .before .before .before .before .before .before .loop .inv in
     ((record { lots = _; calls = _; table = c .before .before .before .before .before .before .before .before .before .before .before .before .before .before .before .before .before .before .before .before .before .pre .0 }, inv .3), inv .2)
-
-same-length : tie.Need-same-length Inv-loop μ-loop
-same-length c = c .before .before .before .before .before .before .before .before .before .before .before .before .before .before .loop .inv .0
 
 returns : tie.Need-returns Inv-loop μ-loop
 returns c =
@@ -65,12 +59,6 @@ put-requires c κs =
     let f = subst (NextIs _ _ _ _) (c .before .before .before .before .before .before .before .before .before .before .before .before .next .given .1) (c .before .before .before .before .before .before .before .before .before .before .before .before .before .before .next-pair .ensures .0) .0 in
     (f .lot-in, f .call-in, omega (arith, inv .1 .few, c .before .before .before .before .before .before .before .before .before .before .before .before .before .before .before .before .before .before .before .before .before .before .before .before .before .loop-test .taken), omega (arith, inv .0, c .before .before .before .before .before .before .before .before .before .before .before .before .before .before .before .before .before .before .before .before .before .before .before .before .before .before .before .before .before .before .before .before .before .before .before .before .pre .1 .1))
 
-add-count : tie.Need-add-count Inv-loop μ-loop
-add-count c = omega (arith, c .before .before .before .before .before .before .before .before .before .before .before .before .before .before .before .before .before .before .before .before .before .before .before .before .before .before .before .before .before .loop .inv .1 .few, c .before .before .before .before .before .before .before .before .before .before .before .before .before .before .before .before .before .before .before .before .before .before .before .before .before .before .before .before .loop-test .taken)
-
-loop-less : tie.Need-loop-less Inv-loop μ-loop
-loop-less c = omega (arith, c .before .before .before .before .before .before .before .before .before .before .before .before .before .before .before .before .before .before .before .before .before .before .before .before .before .before .before .before .loop-test .taken)
-
 loop-again : tie.Need-loop-again Inv-loop μ-loop
 loop-again c =
     let a = c .before .before .before .before .before .before .before .before .before .before .before .before .before .before .before .before .before .before .before .before .before .before .before .before .before .before .before .before .before .before .before .before .before .before .before .before .before .before .before .args in
@@ -85,12 +73,6 @@ loop-again c =
       asked-then q asked on (c .before .before .before .before .either .ensures),
     )
 
-same-length-2 : tie.Need-same-length-2 Inv-loop μ-loop
-same-length-2 c = c .before .loop .inv .0
-
-returns-2 : tie.Need-returns-2 Inv-loop μ-loop
-returns-2 c = going-done (c .before .loop .inv .1) (c .loop-test .left)
-
 pub find-pairs-spec : {M : Type 1} → statement M
 find-pairs-spec =
     tie.close
@@ -98,19 +80,19 @@ find-pairs-spec =
     Inv-loop
     μ-loop
     first-lines-requires
-    raise-requires
+    (λ c κs. (c .before .before .before .before .before .before .before .pre .0 .slacks-are .capped, refl))
     (λ c κs. search needs)
     loop-holds
     next-pair-requires
     (λ c. search needs)
     (λ c. search needs)
-    same-length
+    (λ c. c .before .before .before .before .before .before .before .before .before .before .before .before .before .before .loop .inv .0)
     returns
     take-pair-requires
     (λ c κs. search needs)
     put-requires
-    add-count
-    loop-less
+    (λ c. omega (arith, c .before .before .before .before .before .before .before .before .before .before .before .before .before .before .before .before .before .before .before .before .before .before .before .before .before .before .before .before .before .loop .inv .1 .few, c .before .before .before .before .before .before .before .before .before .before .before .before .before .before .before .before .before .before .before .before .before .before .before .before .before .before .before .before .loop-test .taken))
+    (λ c. omega (arith, c .before .before .before .before .before .before .before .before .before .before .before .before .before .before .before .before .before .before .before .before .before .before .before .before .before .before .before .before .loop-test .taken))
     loop-again
-    same-length-2
-    returns-2)
+    (λ c. c .before .loop .inv .0)
+    (λ c. going-done (c .before .loop .inv .1) (c .loop-test .left)))

@@ -1,5 +1,6 @@
 -- `finder::by_slacks::find_by_slacks` meets its contract. What the search found is written, or nothing is (`orders-found`, `orders-none`).
 use borrow.Author.Needs.{needs}
+use mathlib.Core.Path.{refl}
 use native.Mathlib.Omega.{arith}
 use Rattle.transport.specs.Finder.{find}
 use Rattle.slacks.specs.Slacks.{bySlacks}
@@ -18,7 +19,7 @@ write-order-requires c κs =
     let a = c .before .before .before .before .before .before .before .before .before .before .before .before .before .before .args in
     let p = c .before .before .before .before .before .before .before .before .before .before .before .before .before .before .pre in
     let f = c .before .before .before .before .before .before .find-pairs in
-    let e = counts-found (bySlacks (a .slacks .now) (a .n) (a .m)) _ _ _ (c .before .before .before .found .given .1) (f .ensures) in
+    let e = counts-found (bySlacks (a .slacks .now) (a .n) (a .m)) _ _ _ _ refl (c .before .before .before .found .given .1) (f .ensures) in
     let few = size-few (p .0) in
     (omega arith, omega (arith, f .kept .1 .1 .1 .1 .1 .1 .1 .1 .0), omega (arith, p .2, p .3))
 

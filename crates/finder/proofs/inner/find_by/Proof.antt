@@ -3,7 +3,7 @@ use borrow.Author.Needs.{needs}
 use mathlib.Core.Path.{_≡_, subst⁻¹}
 use mathlib.Core.Bool.{Bool}
 use mathlib.Core.List.{List}
-use Prim.Native.Nat.{ℕ, _+_, _≤_}
+use Prim.Native.Nat.{ℕ, _+_}
 use native.Mathlib.Omega.{arith}
 use Rattle.transport.specs.Problem.{Problem}
 use Rattle.transport.specs.Finder.{size}
@@ -47,9 +47,6 @@ module _ (c : tie.After-add-idle) where
   total-is : filled .fill-slacks .result + start filled .args .n ≡ size enlarged
   total-is = omega (arith, filled .fill-slacks .ensures .1 .1 .2, idle-size costLimit (stated filled), size-of-same (c .add-idle .ensures .0))
 
-  few : size enlarged ≤ 1024
-  few = size-few (c .add-idle .ensures .1 .0)
-
 find-by-slacks-requires : tie.Need-find-by-slacks-requires
 find-by-slacks-requires c κs =
     let a = c .before .before in
@@ -80,7 +77,7 @@ find-by-spec =
     (λ c κs. search needs)
     add-idle-requires
     (λ c. search needs)
-    (λ c. omega (arith, total-is (c .before), few (c .before)))
+    (λ c. omega (arith, total-is (c .before), size-few (c .before .add-idle .ensures .1 .0)))
     find-by-slacks-requires
     (λ c. search needs)
     returns

@@ -11,9 +11,6 @@ Inv-loop lots j low-gone high-gone low₀ high₀ still₀ left₀ low high stil
 abbrev μ-loop : tie.MeasureT-loop
 μ-loop lots j low-gone high-gone low₀ high₀ still₀ left₀ low high still left = left
 
-loop-less : tie.Need-loop-less Inv-loop μ-loop
-loop-less c = c .without .ensures .lower (c .before .before .before .before .before .before .before .before .lowest .ensures .0 .is-in)
-
 loop-again : tie.Need-loop-again Inv-loop μ-loop
 loop-again c =
     let high = c .before .before .before .before in
@@ -22,9 +19,6 @@ loop-again c =
     releasing-more (lowest .before .before .loop .inv) (omega arith) (omega arith) (lowest .lowest .ensures .0 .is-in) (c .without .ensures)
     (low .without-if .ensures) (high .without-if2 .ensures) (c .before .before .is-set .ensures ∙ c .before .before .before .either .ensures .each _)
     (c .before .including-if .ensures)
-
-returns : tie.Need-returns Inv-loop μ-loop
-returns c = releasing-all (c .before .loop .inv) (omega arith)
 
 pub release-spec : {M : Type 1} → statement M
 release-spec =
@@ -48,6 +42,6 @@ release-spec =
     (λ c κs. tt)
     (λ c κs. omega arith)
     (λ c κs. omega arith)
-    loop-less
+    (λ c. c .without .ensures .lower (c .before .before .before .before .before .before .before .before .lowest .ensures .0 .is-in))
     loop-again
-    returns)
+    (λ c. releasing-all (c .before .loop .inv) (omega arith)))

@@ -12,9 +12,6 @@ Inv-loop slacks₀ words₀ n m i₀ slacks words i = (i ≤ n) × Idled m i sla
 abbrev μ-loop : tie.MeasureT-loop
 μ-loop slacks₀ words₀ n m i₀ slacks words i = n - i
 
-loop-holds : tie.Need-loop-holds Inv-loop μ-loop
-loop-holds c = let (s, w, few) = c .pre in (omega arith, idled-none s w few)
-
 few : (s : tie.Start Inv-loop μ-loop) → (s .args .n ≤ 32) × (s .args .m < 32)
 few s = (s .pre .0 .lots-few, s .pre .2)
 
@@ -38,7 +35,7 @@ add-idle-spec =
     (tie.spec
     Inv-loop
     μ-loop
-    loop-holds
+    (λ c. let (s, w, few) = c .pre in (omega arith, idled-none s w few))
     (λ c. omega (arith, few (c .before .before)))
     (λ c. omega (arith, few (c .before .before)))
     (λ c. omega (arith, few (c .before .before)))

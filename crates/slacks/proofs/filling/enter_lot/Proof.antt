@@ -44,19 +44,6 @@ cost : (c : tie.Else2 Inv-loop μ-loop) → let t = c .before in
     AtCost (start t .args .book .now) (start t .args .lot .0) (t .if1 .j) (t .before .loop .next) (t .before .loop .slacks)
 cost c = here (c .before) .1 (c .if2 .left)
 
-returns : tie.Need-returns Inv-loop μ-loop
-returns c =
-    let p = start (c .before) .pre in
-    reached-all (here (c .before) .0) (p .1) (omega (arith, p .2, c .if2 .taken))
-
-slack-of-requires : tie.Need-slack-of-requires Inv-loop μ-loop
-slack-of-requires c κs = rw (c .cost-at .ensures) (cost (c .before) .low)
-
-loop-again : tie.Need-loop-again Inv-loop μ-loop
-loop-again c =
-    let t = c .before in
-    rw (t .slack-of .ensures, t .before .cost-at .ensures) (cost (t .before .before) .entered)
-
 pub enter-lot-spec : {M : Type 1} → statement M
 enter-lot-spec =
     tie.close
@@ -66,9 +53,9 @@ enter-lot-spec =
     (λ c. omega (arith, few (c .before)))
     (λ c. c .before .pre .0)
     (λ c κs. tt)
-    returns
+    (λ c. let p = start (c .before) .pre in reached-all (here (c .before) .0) (p .1) (omega (arith, p .2, c .if2 .taken)))
     (λ c κs. cost c .fits)
-    slack-of-requires
+    (λ c κs. rw (c .cost-at .ensures) (cost (c .before) .low))
     (λ c. omega (arith, cost (c .before .before) .inside))
     (λ c. omega (arith, cost (c .before .before .before) .inside))
     (λ c. omega (arith, cost (c .before .before .before) .inside))
@@ -76,4 +63,4 @@ enter-lot-spec =
     (λ c. omega (arith, cost (c .before .before .before) .short))
     (λ c. omega (arith, cost (c .before .before .before) .inside))
     (λ c. omega (arith, cost (c .before .before .before) .entered .bounded, here (c .before .before .before .before) .2))
-    loop-again)
+    (λ c. rw (c .before .slack-of .ensures, c .before .before .cost-at .ensures) (cost (c .before .before .before) .entered)))

@@ -1,15 +1,18 @@
 -- `slacks::filling::fill_slacks` meets its contract. The invariant: the lots below i are entered, with their words, and `at` is where the row of
--- lot i starts. All lots entered state the book's problem (`filled-same`, `filled-idle`).
+-- lot i starts. All lots entered state the book's problem (`stated-same`, `stated-idle`).
 use mathlib.Core.Path.{_≡_, sym, _∙_}
-use Prim.Native.Nat.{ℕ, _+_, _-_, _≤_, _<_}
+use Prim.Native.Nat.{ℕ, _+_, _-_, _/_, _%_, _≤_, _<_}
 use native.Mathlib.Omega.{arith}
+use borrow.Author.Needs.{needs}
 use lib.ListN.{length, replicate, length-replicate}
 use Rattle.transport.proofs.Finder.Same.{size-of-same}
 use Rattle.specification.specs.Book.{rowWord, rowAt, rowStart, bookLots}
 use Rattle.rows.proofs.Bits.{ones-below-none}
 use Rattle.book.proofs.Readable.{Read, counts-are}
+use Rattle.slacks.specs.Slacks.{slackIn}
 use Rattle.slacks.specs.Filling.{Filled, Reached}
-use Rattle.slacks.proofs.Entering.{filled-none, filled-more, word-is, lot-within, filled-same, filled-idle, filled-slacks, filled-words}
+use Rattle.slacks.proofs.Filled.{stated-same, stated-idle}
+use Rattle.slacks.proofs.Entering.{filled-none, filled-more, word-is, lot-within, slack-here, filled-slacks, filled-words}
 use Rattle.slacks.proofs.filling.fill_slacks.Statement.{statement}
 use Rattle.slacks.proofs.filling.fill_slacks.Tie as tie
 
@@ -26,16 +29,11 @@ read s = counts-are _ (sym (s .pre .0))
 loop-holds : tie.Need-loop-holds Inv-loop μ-loop
 unfolding rowStart
 loop-holds c =
-    let s = c .before .before in (
-      omega arith,
-      record {
-        is-readable = read s .is-readable;
-        bounded = omega arith;
-        next-is = omega (arith, ones-below-none (rowWord (rowAt (s .args .book .now) 0)));
-        entered = filled-none (s .pre .1);
-      },
-      filled-none (s .pre .2),
-    )
+    let s = c .before .before in
+    let none = ones-below-none (rowWord (rowAt (s .args .book .now) 0)) in
+    let readable = read s .is-readable in
+    let entered = filled-none {Holds = λ x slack. slack ≡ slackIn (s .args .book .now) (x / 32) (x % 32)} (s .pre .1) in
+    (omega arith, search needs, filled-none (s .pre .2))
 
 -- the lot that the loop is at is in the book
 module _ (c : tie.In-loop Inv-loop μ-loop) where
@@ -64,9 +62,6 @@ loop-again c =
           (c .before .before .cost-at .ensures ∙ word-is _ reached),
     )
 
-pair-count-requires : tie.Need-pair-count-requires Inv-loop μ-loop
-pair-count-requires c κs = let r = read (c .before .before .before .before) in (r .is-readable, r .lots-is)
-
 returns : tie.Need-returns Inv-loop μ-loop
 returns c =
     let l = c .before .before in
@@ -74,8 +69,8 @@ returns c =
     let r = read s in
     let e : l .loop .i ≡ s .args .n = omega (arith, c .before .loop-test .left) in
     let (_, all, words) = rw e at (l .loop .inv) in
-    let same = filled-same r all in
-    (same, (filled-idle r all, (filled-slacks r all, filled-words r all words, c .pair-count .ensures ∙ size-of-same same)))
+    let same = stated-same r _ (slack-here r all) in
+    (same, (stated-idle r _ (slack-here r all), (filled-slacks r all, filled-words r all words, c .pair-count .ensures ∙ size-of-same same)))
 
 pub fill-slacks-spec : {M : Type 1} → statement M
 fill-slacks-spec =
@@ -92,5 +87,5 @@ fill-slacks-spec =
     (λ c. omega arith)
     (λ c. omega arith)
     loop-again
-    pair-count-requires
+    (λ c κs. let r = read (c .before .before .before .before) in (r .is-readable, r .lots-is))
     returns)
