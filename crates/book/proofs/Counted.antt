@@ -1,11 +1,10 @@
 -- The length of a readable book tells how many pairs are eligible: past the opening it has four bytes for each lot's word and four for
 -- each cost.
 use mathlib.Core.Path.{_≡_, refl, sym, _∙_, ap}
-use mathlib.Core.Bool.{Bool, true, false, cond}
+use mathlib.Core.Bool.{cond}
 use mathlib.Core.List.{List}
 use Prim.Native.Nat.{ℕ, zero, suc, _+_, _*_, _<_}
 use native.Mathlib.Nat.{mod-eq-of-lt}
-use native.Mathlib.Numerals.{add-one}
 use native.Mathlib.Omega.{arith}
 use borrow.Author.Tests.{lt-ltb}
 use lib.Count.{ones}
@@ -13,21 +12,10 @@ use lib.ListN.{length}
 use Rattle.transport.specs.Problem.{sum}
 use Rattle.transport.specs.Finder.{size}
 use Rattle.transport.proofs.Laws.Sums.{sum-cong}
-use Rattle.specification.specs.Book.{bit, rowWord, bookLots, bookCalls, rowAt, rowStart, problemOf}
+use Rattle.specification.specs.Book.{rowWord, bookLots, bookCalls, rowAt, rowStart, problemOf}
+use Rattle.specification.proofs.Bits.{bits-counted}
 use Rattle.specification.proofs.Starts.{book-ends}
-use Rattle.rows.specs.Words.{onesBelow}
-use Rattle.rows.proofs.Bits.{ones-below-none, ones-below-set, ones-below-unset}
 use Rattle.book.proofs.Readable.{Read}
-
--- the set bits below bit c, one by one
-bits-sum : (word c : ℕ) → sum c (λ j. cond (bit word j) 1 0) ≡ onesBelow word c
-unfolding sum
-bits-sum word zero = sym (ones-below-none word)
-bits-sum word (suc c) = rw (bits-sum word c, ← add-one c) (go (bit word c) refl)
-  where
-    go : (b : Bool) → bit word c ≡ b → onesBelow word c + cond b 1 0 ≡ onesBelow word (c + 1)
-    go true e = sym (ones-below-set word c e)
-    go false e = omega (arith, ones-below-unset word c e)
 
 module _ (book : List ℕ) where
   starts : (i : ℕ) → rowStart book i ≡ 7 + 4 * i + 4 * sum i (λ k. ones (rowWord (rowAt book k)))
@@ -42,7 +30,7 @@ module _ (book : List ℕ) where
     row-sum i hi =
         let word = rowWord (rowAt book i) in
         sym (sum-cong (bookCalls book) _ _ (λ j hj. rw (lt-ltb i (bookLots book) hi, lt-ltb j (bookCalls book) hj))
-        ∙ bits-sum word (bookCalls book) ∙ ap ones (mod-eq-of-lt (read .known .row i hi .word-below)))
+        ∙ bits-counted word (bookCalls book) ∙ ap ones (mod-eq-of-lt (read .known .row i hi .word-below)))
 
     pub book-counted : length book ≡ 7 + 4 * n + 4 * size (problemOf book)
     unfolding problemOf

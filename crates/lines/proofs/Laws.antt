@@ -1,24 +1,27 @@
 -- Laws of the lines. A line is set with its ends: a word has one lowest and one highest number. At first each line has what is eligible with it, by
--- numbers, which is the same by ranks. When a pair is lost, both its lines lose a rank: what they have is still what is left, and an end stays
+-- its ranks. When a pair is lost, both its lines lose a rank: what they have is still what is left, and an end stays
 -- where it was not the pair's.
-use mathlib.Core.Path.{_≡_, refl, sym, ap, _∙_}
+use mathlib.Core.Path.{_≡_, refl, sym, ap, _∙_, subst, fun-ext}
 use mathlib.Core.Logic.{by-cases}
-use mathlib.Core.Bool.{Bool, true, false, true≢false}
+use mathlib.Core.Bool.{Bool, true, false, not, _&&_, true≢false, and-true, and-not-self}
 use mathlib.Core.List.{List}
-use Prim.Native.Nat.{ℕ, _+_, _-_, _≤_, _<_}
+use Prim.Native.Nat.{ℕ, _+_, _-_, _%_, _≤_, _<_}
 use native.Mathlib.Nat.{zero-add}
 use native.Mathlib.Decide.{ℕ-discrete, decLt}
 use native.Mathlib.Omega.{arith}
 use lib.ListN.{length, getD, set, length-set, List·getD-eq-default}
 use lib.Seq.{getD-set-same, getD-set-other}
 use Rattle.transport.proofs.Laws.Tests.{false-of}
+use Rattle.transport.proofs.Finder.Ranks.{Renames}
 use Rattle.specification.specs.Book.{bit}
-use Rattle.words.specs.Words.{LowestIn, HighestIn, Without, Begins}
+use Rattle.words.specs.Words.{LowestIn, HighestIn, Below, Without, Begins, IncludingIf}
 use Rattle.words.specs.Lefts.{isLeft, TakenFrom}
-use Rattle.words.proofs.Sets.{bit-none}
+use Rattle.words.proofs.Sets.{bit-none, bit-all}
+use Rattle.words.proofs.Changes.{was-in}
 use Rattle.words.proofs.Ends.{word-positive, lowest-le, highest-ge, lowest-from, highest-from}
 use Rattle.words.proofs.Lefts.{gone, stays, fewer}
-use Rattle.lines.specs.Lines.{OnLine, Lined, EndsOf, Ended, EndsKept, Settled, LineSet}
+use Rattle.ranks.specs.Numbered.{Numbered, Plain}
+use Rattle.lines.specs.Lines.{OnLine, Lined, EndsOf, Ended, EndsKept, RanksFrom, ByRank, LineSet}
 
 -- a word with a number is one of the list
 pub left-in : (xs : List ℕ) (x q : ℕ) → isLeft xs x q ≡ true → x < length xs
@@ -78,46 +81,126 @@ module _ {names lines lines′ nears nears′ fars fars′ : List ℕ} {word lin
 
   -- so with a number less
   pub taken-line : {r : ℕ} → Without (getD lines line 0) r word → TakenFrom line r lines lines′
-  taken-line w = record { own = rw (s .own-word) w; others = λ k d. s .others k d .0; long = s .long .0 }
+  taken-line w = record { out = rw (s .own-word) (w .out); kept = λ l d. rw (s .own-word) (w .others l d); others = λ k d. s .others k d .0; long = s .long .0 }
 
 -- ---- the lines at first
 
--- a line with what passes a test
-pub record First (names : List ℕ) (test : ℕ → Bool) (across word near far : ℕ) : Type 0 where
-  pub has : (q : ℕ) → bit word q ≡ test q
+-- of lots from line 0 on, and of calls from line 32 on
+pub lots-from : {n m : ℕ} {names ranks : List ℕ} → Numbered n m names ranks → Renames n (λ x. getD ranks (0 + x) 0) (λ q. getD names (0 + q) 0)
+lots-from k = simp zero-add (k .lots-named)
+
+pub ranks-from : {ranked : Bool} {ranks : List ℕ} {from count : ℕ} {at : ℕ → ℕ} → from ≤ 32 → from % 32 ≡ 0 → count ≤ 32
+    → Renames count (λ x. getD ranks (from + x) 0) at → (ranked ≡ false → Plain ranks) → RanksFrom ranked ranks from count
+ranks-from {from = from} low start few r plain = record {
+  few = few;
+  below = r .rank-below;
+  all = λ q h. (_, r .at-below q h, sym (r .rank-at q h));
+  plain = λ e x h. plain e (from + x) (omega arith) ∙ omega arith;
+}
+
+-- of the same set
+pub by-rank-as : {ranks : List ℕ} {from count word : ℕ} {In In′ : ℕ → Bool} → ((x : ℕ) → In x ≡ In′ x) → ByRank ranks from count In word
+    → ByRank ranks from count In′ word
+by-rank-as {ranks} {from} {count} {word} same = subst (λ (In : ℕ → Bool). ByRank ranks from count In word) (fun-ext same)
+
+-- of own numbers the word itself has the ranks, and so has a word of all
+module _ {ranked : Bool} {ranks : List ℕ} {from count word : ℕ} (r : RanksFrom ranked ranks from count) (inside : (x : ℕ) → bit word x ≡ true → x < count) where
+  pub by-rank-plain : ranked ≡ false → ByRank ranks from count (bit word) word
+  by-rank-plain e = record {
+    has = λ x b. rw (r .plain e x (inside x b)) b;
+    only = λ q b. (q, inside q b, b, sym (r .plain e q (inside q b)));
+  }
+
+  pub by-rank-all : Below 4294967295 count word → ByRank ranks from count (bit word) word
+  by-rank-all b = record {
+    has = λ x e. all _ (r .below x (inside x e));
+    only = λ q e. let (x, hx, is) = r .all q (inside q e) in (x, hx, all x hx, is);
+  }
+    where
+      all : (x : ℕ) → x < count → bit word x ≡ true
+      all x h = b .lower x h ∙ bit-all 32 x (omega (arith, r .few))
+
+-- the ranks of those in the word but not left
+pub record Ranking (ranks : List ℕ) (from count word left line : ℕ) : Type 0 where
+  pub among : (x : ℕ) → bit left x ≡ true → bit word x ≡ true
+  pub by-rank : ByRank ranks from count (λ x. bit word x && not (bit left x)) line
+
+pub ranking-none : {ranks : List ℕ} {from count word : ℕ} → Ranking ranks from count word word 0
+ranking-none {word = word} = record {
+  among = λ x e. e;
+  by-rank = record { has = λ x e. absurd (true≢false (sym e ∙ and-not-self (bit word x))); only = λ q e. absurd (true≢false (sym e ∙ bit-none q)) };
+}
+
+pub ranking-more : {ranks : List ℕ} {from count word left left′ line line′ k rank : ℕ} → Ranking ranks from count word left line → k < count
+    → bit left k ≡ true → Without left k left′ → rank ≡ getD ranks (from + k) 0 → IncludingIf true line rank line′ → Ranking ranks from count word left′ line′
+ranking-more {ranks} {from} {word = word} {left} {left′} {line} {line′} {k} r few on w named put = record {
+  among = λ x e. r .among x (was-in w x e);
+  by-rank = record {
+    has = λ x e. by-cases (ℕ-discrete x k)
+        (λ z. rw z (i .own))
+        (λ d. grows _ (r .by-rank .has x (rw (w .others x d) at e)));
+    only = λ q e. by-cases (ℕ-discrete q (getD ranks (from + k) 0))
+        (λ z. (k, few, rw (r .among k on, w .out), z))
+        (λ d. let (x, hx, b, is) = r .by-rank .only q (sym (i .others q d) ∙ e) in
+        (x, hx, rw (w .others x (λ z. d (is ∙ ap (λ (y : ℕ). getD ranks (from + y) 0) z))) b, is));
+  };
+}
+  where
+    i : IncludingIf true line (getD ranks (from + k) 0) line′
+    i = subst (λ (x : ℕ). IncludingIf true line x line′) named put
+
+    grows : (q : ℕ) → bit line q ≡ true → bit line′ q ≡ true
+    grows q e = by-cases (ℕ-discrete q (getD ranks (from + k) 0)) (λ z. rw z (i .own)) (λ d. i .others q d ∙ e)
+
+pub ranking-all : {ranks : List ℕ} {from count word left line : ℕ} → Ranking ranks from count word left line → left ≡ 0 → ByRank ranks from count (bit word) line
+ranking-all {word = word} r z = by-rank-as (λ x. rw (z, bit-none x) (and-true (bit word x))) (r .by-rank)
+
+-- a line has the ranks of what is eligible with it, with its ends
+pub record FirstLine (names ranks : List ℕ) (across count : ℕ) (In : ℕ → Bool) (word near far : ℕ) : Type 0 where
+  pub by-rank : ByRank ranks across count In word
   pub ends : EndsOf names across word near far
 
--- those of the lots and the calls below x
-pub record Firsts (names eligible : List ℕ) (x : ℕ) (lines nears fars : List ℕ) : Type 0 where
+-- so what is on it is eligible
+on-first : {names ranks : List ℕ} {across count word near far : ℕ} {In : ℕ → Bool} → FirstLine names ranks across count In word near far → count ≤ 32
+    → Renames count (λ x. getD ranks (across + x) 0) (λ q. getD names (across + q) 0) → (q : ℕ) → bit word q ≡ true
+    → (q < 32) × (In (getD names (across + q) 0) ≡ true) × (getD ranks (across + getD names (across + q) 0) 0 ≡ q)
+on-first {names} {across = across} f few r q b =
+    let (x, hx, e, is) = f .by-rank .only q b in
+    let name : getD names (across + q) 0 ≡ x = ap (λ (y : ℕ). getD names (across + y) 0) is ∙ r .at-rank x hx in
+    (omega (arith, r .rank-below x hx), rw name e, rw name (sym is))
+
+-- the lines of the lots and the calls below x
+pub record Firsts (names ranks eligible : List ℕ) (n m x : ℕ) (lines nears fars : List ℕ) : Type 0 where
   pub few : x ≤ 32
-  pub rows : (a : ℕ) → a < x → First names (isLeft eligible a) 32 (getD lines a 0) (getD nears a 0) (getD fars a 0)
-  pub columns : (l : ℕ) → l < x → First names (λ a. isLeft eligible a l) 0 (getD lines (32 + l) 0) (getD nears (32 + l) 0) (getD fars (32 + l) 0)
+  pub rows : (a : ℕ) → a < x → FirstLine names ranks 32 m (isLeft eligible a) (getD lines a 0) (getD nears a 0) (getD fars a 0)
+  pub columns : (l : ℕ) → l < x → FirstLine names ranks 0 n (λ a. isLeft eligible a l) (getD lines (32 + l) 0) (getD nears (32 + l) 0) (getD fars (32 + l) 0)
   pub long : (length lines ≡ 64) × (length nears ≡ 64) × (length fars ≡ 64)
 
-module _ {names ranks eligible lines nears fars : List ℕ} (s : (i j : ℕ) → isLeft eligible i j ≡ true → Settled names ranks eligible i j)
-    (f : Firsts names eligible 32 lines nears fars) where
-  -- what is on a line is eligible
-  on-row : (a q : ℕ) → a < 32 → isLeft lines a q ≡ true → Settled names ranks eligible a q
-  on-row a q h b = s a q (sym (f .rows a h .has q) ∙ b)
+-- so the lines have what is eligible, by its ranks
+pub lined-first : {n m : ℕ} {names ranks eligible lines nears fars : List ℕ} → Numbered n m names ranks
+    → ((i j : ℕ) → isLeft eligible i j ≡ true → (i < n) × (j < m)) → Firsts names ranks eligible n m 32 lines nears fars → Lined names ranks eligible lines
+lined-first {names = names} {ranks} {eligible} {lines} k inside f = record {
+  row = λ a l e. let (ha, hl) = inside a l e in
+      record { is-on = f .rows a (omega (arith, k .lots-few)) .by-rank .has l e; named = k .calls-named .at-rank l hl };
+  column = λ a l e. let (ha, hl) = inside a l e in
+      record { is-on = f .columns l (omega (arith, k .calls-few)) .by-rank .has a e; named = simp zero-add (k .lots-named .at-rank a ha) };
+  row-of = λ a q h b. on-row a q h b .1;
+  column-of = λ l p h b. on-column l p h b .1;
+  row-rank = λ a q h b. on-row a q h b .2;
+  column-rank = λ l p h b. on-column l p h b .2;
+  within = λ x q b. by-cases (decLt x 32)
+      (λ h. on-row x q h b .0)
+      (λ o. let e : x ≡ 32 + (x - 32) = omega arith in on-column (x - 32) q (omega (arith, left-in lines x q b, f .long .0)) (rw e at b) .0);
+  long = f .long .0;
+}
+  where
+    on-row : (a q : ℕ) → a < 32 → isLeft lines a q ≡ true
+        → (q < 32) × (isLeft eligible a (getD names (32 + q) 0) ≡ true) × (getD ranks (32 + getD names (32 + q) 0) 0 ≡ q)
+    on-row a q h = on-first (f .rows a h) (k .calls-few) (k .calls-named) q
 
-  on-column : (l p : ℕ) → l < 32 → isLeft lines (32 + l) p ≡ true → Settled names ranks eligible p l
-  on-column l p h b = s p l (sym (f .columns l h .has p) ∙ b)
-
-  -- so the lines have what is eligible, by its ranks
-  pub lined-first : Lined names ranks eligible lines
-  lined-first = record {
-    row = λ a l e. still (s a l e .by-rank) (f .rows a (s a l e .lot-few) .has _);
-    column = λ a l e. let k = s a l e in
-        record { is-on = simp zero-add (f .columns l (k .call-few) .has _ ∙ k .lot-by-rank .0); named = simp zero-add (k .lot-by-rank .1) };
-    row-of = λ a q h b. on-row a q h b .by-name .is-on;
-    column-of = λ l p h b. on-column l p h b .lot-by-name .0;
-    row-rank = λ a q h b. on-row a q h b .by-name .named;
-    column-rank = λ l p h b. on-column l p h b .lot-by-name .1;
-    within = λ x q b. by-cases (decLt x 32)
-        (λ h. on-row x q h b .call-few)
-        (λ o. let e : x ≡ 32 + (x - 32) = omega arith in on-column (x - 32) q (omega (arith, left-in lines x q b, f .long .0)) (rw e at b) .lot-few);
-    long = f .long .0;
-  }
+    on-column : (l p : ℕ) → l < 32 → isLeft lines (32 + l) p ≡ true
+        → (p < 32) × (isLeft eligible (getD names p 0) l ≡ true) × (getD ranks (getD names p 0) 0 ≡ p)
+    on-column l p h b = simp zero-add at (on-first (f .columns l h) (k .lots-few) (lots-from k) p b)
 
 -- ---- a pair is lost
 

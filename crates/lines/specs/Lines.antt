@@ -1,9 +1,9 @@
 -- What is left, by ranks: line i is lot i, with the ranks of the calls left to it, and line 32 + j is call j, with the ranks of the lots that
 -- still have it. The ends of a line are the names of its lowest and its highest rank.
 use mathlib.Core.Path.{_≡_}
-use mathlib.Core.Bool.{true}
+use mathlib.Core.Bool.{Bool, true, false}
 use mathlib.Core.List.{List}
-use Prim.Native.Nat.{ℕ, _+_, _<_}
+use Prim.Native.Nat.{ℕ, _+_, _≤_, _<_}
 use lib.ListN.{length, getD}
 use Rattle.specification.specs.Book.{bit}
 use Rattle.words.specs.Words.{LowestIn, HighestIn}
@@ -42,15 +42,17 @@ pub record EndsKept (i j : ℕ) (lefts ends ends′ : List ℕ) : Type 0 where
   pub row : (a l : ℕ) → isLeft lefts a l ≡ true → ((a ≡ i) × (getD ends a 0 ≡ j) → ⊥) → getD ends′ a 0 ≡ getD ends a 0
   pub column : (a l : ℕ) → isLeft lefts a l ≡ true → ((l ≡ j) × (getD ends (32 + l) 0 ≡ i) → ⊥) → getD ends′ (32 + l) 0 ≡ getD ends (32 + l) 0
 
--- of a pair (i, j) that is eligible: so it is with the rank or the name of either for its number, and the rank of its name, and the name of its
--- rank, is itself
-pub record Settled (names ranks eligible : List ℕ) (i j : ℕ) : Type 0 where
-  pub lot-few : i < 32
-  pub call-few : j < 32
-  pub by-rank : OnLine names ranks 32 (getD eligible i 0) j
-  pub by-name : OnLine ranks names 32 (getD eligible i 0) j
-  pub lot-by-rank : (isLeft eligible (getD ranks i 0) j ≡ true) × (getD names (getD ranks i 0) 0 ≡ i)
-  pub lot-by-name : (isLeft eligible (getD names i 0) j ≡ true) × (getD ranks (getD names i 0) 0 ≡ i)
+-- so many lots or calls have as many ranks, which are counted from a line on; without ranks these are their own numbers
+pub record RanksFrom (ranked : Bool) (ranks : List ℕ) (from count : ℕ) : Type 0 where
+  pub few : count ≤ 32
+  pub below : (x : ℕ) → x < count → getD ranks (from + x) 0 < count
+  pub all : (q : ℕ) → q < count → (x : ℕ) × (x < count) × (q ≡ getD ranks (from + x) 0)
+  pub plain : ranked ≡ false → (x : ℕ) → x < count → getD ranks (from + x) 0 ≡ x
+
+-- the word has the ranks of those that are in a set, and no other
+pub record ByRank (ranks : List ℕ) (from count : ℕ) (In : ℕ → Bool) (word : ℕ) : Type 0 where
+  pub has : (x : ℕ) → In x ≡ true → bit word (getD ranks (from + x) 0) ≡ true
+  pub only : (q : ℕ) → bit word q ≡ true → (x : ℕ) × (x < count) × (In x ≡ true) × (q ≡ getD ranks (from + x) 0)
 
 -- the line has the word and its ends, and the others are as they were
 pub record LineSet (names : List ℕ) (word line across : ℕ) (lines lines′ nears nears′ fars fars′ : List ℕ) : Type 0 where

@@ -1,20 +1,25 @@
--- The word of the calls whose pairs with a lot are free, one lot after another, and the lowest of all lots; and the words of least gaps, worked
--- out for one lot after another.
+-- The word of the calls whose pairs with a lot are free, one lot after another, and the lowest of all lots; the words of least gaps, worked
+-- out for one lot after another; and the word of the calls left to a lot, by the marks of the pairs taken.
 use mathlib.Core.Path.{_≡_, refl, sym, _∙_, ap, subst⁻¹}
-use mathlib.Core.Logic.{⊎-elim}
-use mathlib.Core.Bool.{Bool, true, false, not, _&&_, true≢false}
+use mathlib.Core.Logic.{⊎-elim, by-cases}
+use mathlib.Core.Bool.{Bool, true, false, not, _&&_, true≢false, and-true, and-false}
 use mathlib.Core.List.{List}
-use Prim.Native.Nat.{ℕ, _+_, _≤_, _<_}
+use Prim.Native.Nat.{ℕ, _+_, _*_, _^_, _≤_, _<_}
+use native.Mathlib.Decide.{decLt}
 use native.Mathlib.Omega.{arith}
-use lib.ListN.{length, getD}
-use Rattle.transport.proofs.Laws.Tests.{below-suc}
+use borrow.Author.Tests.{eq-eqb, eqb-true}
+use lib.ListN.{length, getD, set, length-set}
+use lib.Seq.{getD-set-same, getD-set-other}
+use Rattle.transport.proofs.Laws.Tests.{below-suc, false-of}
 use Rattle.specification.specs.Book.{bit}
-use Rattle.words.specs.Words.{LowestIn, Minus}
+use Rattle.words.specs.Words.{LowestIn, Minus, Begins}
 use Rattle.words.proofs.Ends.{word-positive}
-use Rattle.words.specs.Lefts.{isLeft}
+use Rattle.words.specs.Lefts.{isLeft, TakenFrom}
+use Rattle.words.proofs.Sets.{bit-none, bit-single}
+use Rattle.words.proofs.Lefts.{same-pair, gone, stays}
 use Rattle.panel_table.specs.Filling.{cell}
 use Rattle.panel_table.specs.Gaps.{LeastCalls, Renewed}
-use Rattle.panel.specs.Search.{AllLeast, Frees, FreeCalls, FirstFree}
+use Rattle.panel.specs.Search.{AllLeast, Frees, FreeCalls, FirstFree, isTaken, OwnCalls, TakenMarks}
 
 module _ (lefts least : List ℕ) (i : ℕ) where
   -- at first all that are left
@@ -98,3 +103,50 @@ all-least-more slacks lefts least least′ i was renewed = record {
       (below-suc (omega (arith, hg)));
   long = renewed .long ∙ was .long;
 }
+
+-- ---- the marks of the pairs that are taken
+
+-- none at first
+pub marks-none : {eligible taken : List ℕ} → ((x : ℕ) → getD taken x 0 ≡ 0) → length taken ≡ 64 → TakenMarks eligible eligible taken
+marks-none {eligible} {taken} zeros long = record {
+  each = λ i j hi hj. rw (zeros (8 * i + j), bit-none j) (sym (and-true (isLeft eligible i j)));
+  own = λ i hi j l hj e. absurd (true≢false (sym e ∙ ap (λ (w : ℕ). bit w l) (zeros (8 * i + j)) ∙ bit-none l));
+  long = long;
+}
+
+module _ {eligible lefts taken : List ℕ} {i j : ℕ} (m : TakenMarks eligible lefts taken) (hi : i < 8) (hj : j < 8) where
+  abbrev put : List ℕ
+  put = set taken (8 * i + j) (2 ^ j)
+
+  here : cell put i j ≡ 2 ^ j
+  here = getD-set-same taken (8 * i + j) (2 ^ j) 0 (omega (arith, m .long))
+
+  elsewhere : (a l : ℕ) → l < 8 → ((a ≡ i) × (l ≡ j) → ⊥) → cell put a l ≡ cell taken a l
+  elsewhere a l hl d = getD-set-other taken (8 * i + j) (8 * a + l) (2 ^ j) 0 (λ z. d (omega arith, omega arith))
+
+  -- that of (i, j) is put
+  pub own-put : (a : ℕ) → a < 8 → OwnCalls put a
+  own-put a ha l x hl e = ⊎-elim
+      (λ z. rw (z .1) (eqb-true x j (sym (bit-single j x) ∙ rw (z .0, z .1, here) at e)))
+      (λ d. m .own a ha l x hl (rw (elsewhere a l hl d) at e))
+      (same-pair a l i j)
+
+  pub mark-put : {lefts′ : List ℕ} → TakenFrom i j lefts lefts′ → TakenMarks eligible lefts′ put
+  mark-put t = record {
+    each = λ a l ha hl. ⊎-elim
+        (λ z. gone t a l z ∙ rw (z .0, z .1, here, bit-single j j, eq-eqb j j refl) (sym (and-false (isLeft eligible i j))))
+        (λ d. stays t a l d ∙ m .each a l ha hl ∙ rw (elsewhere a l hl d))
+        (same-pair a l i j);
+    own = own-put;
+    long = length-set taken (8 * i + j) (2 ^ j) ∙ m .long;
+  }
+
+  -- then the calls of lot i that are eligible and not taken are those left to it but j
+  pub left-by-marks : {calls w : ℕ} → ((l : ℕ) → isLeft eligible i l ≡ true → l < 8) → ((l : ℕ) → isLeft lefts i l ≡ true → l < 8)
+      → Begins (isTaken put i) 8 calls → Minus (getD eligible i 0) calls w → (bit w j ≡ false) × ((l : ℕ) → (l ≡ j → ⊥) → bit w l ≡ isLeft lefts i l)
+  left-by-marks in-eligible in-lefts b d = (
+    d .each j ∙ rw (b .first j hj, here, bit-single j j, eq-eqb j j refl) (and-false (isLeft eligible i j)),
+    λ l o. by-cases (decLt l 8)
+        (λ h. d .each l ∙ rw (b .first l h, elsewhere i l h (λ z. o (z .1))) (sym (m .each i l hi h)))
+        (λ h. d .each l ∙ rw (false-of (isLeft eligible i l) (λ e. h (in-eligible l e)), false-of (isLeft lefts i l) (λ e. h (in-lefts l e)))),
+  )

@@ -1,6 +1,6 @@
 -- The search of a table of eight by eight: which pair is next, and what the pairs were given once all are taken.
 use mathlib.Core.Path.{_≡_}
-use mathlib.Core.Bool.{true, false, not}
+use mathlib.Core.Bool.{Bool, true, false, not, _&&_}
 use mathlib.Core.List.{List}
 use mathlib.Core.Option.{Option, some, none}
 use Prim.Native.Nat.{ℕ, _*_, _≤_, _<_}
@@ -55,6 +55,20 @@ NextIs lefts least n (IsPair lot call) = FirstFree lefts least (lot .0) (call .0
 pub record Left (slacks : List ℕ) (n m : ℕ) (lefts : List ℕ) : Type 0 where
   pub inside : (i j : ℕ) → isLeft lefts i j ≡ true → (i < n) × (j < m) × (slackAt slacks i j ≡ 0 → ⊥)
   pub long : length lefts ≡ 8
+
+-- (i, j) is marked as taken: a mark is the word of its call
+abbrev pub isTaken : List ℕ → ℕ → ℕ → Bool
+isTaken taken i j = bit (cell taken i j) j
+
+-- the marks of a lot have no other call
+abbrev pub OwnCalls : List ℕ → ℕ → Type 0
+OwnCalls taken i = (j l : ℕ) → j < 8 → bit (cell taken i j) l ≡ true → l ≡ j
+
+-- the marks: what is left is what is eligible and not taken
+pub record TakenMarks (eligible lefts taken : List ℕ) : Type 0 where
+  pub each : (i j : ℕ) → i < 8 → j < 8 → isLeft lefts i j ≡ (isLeft eligible i j && not (isTaken taken i j))
+  pub own : (i : ℕ) → i < 8 → OwnCalls taken i
+  pub long : length taken ≡ 64
 
 -- what is asked of the caller that has all pairs taken
 pub record Searching (slacks : List ℕ) (n m total : ℕ) (eligible : List ℕ) (remaining : Remaining) : Type 0 where

@@ -8,14 +8,15 @@ use remaining::smaller;
 use slacks::SLACK_MOST;
 use specification::Call;
 use specification::Lot;
+use words::either;
 use words::lowest;
 use words::minus;
-use words::without;
 ghost use mathlib.Core.Path.{_≡_};
-ghost use Prim.Native.Nat.{_≤_, _<_};
+ghost use Prim.Native.Nat.{_^_, _≤_, _<_};
 ghost use lib.ListN.{length, replicate};
+ghost use Rattle.words.specs.Words.{Begins};
 ghost use Rattle.slacks.specs.Slacks.{Capped};
-ghost use Rattle.panel.specs.Search.{FreeCalls, NextIs, AllLeast, Searching, TakenAll};
+ghost use Rattle.panel.specs.Search.{FreeCalls, NextIs, AllLeast, isTaken, OwnCalls, Searching, TakenAll};
 
 // The next pair, or that there is none.
 enum Next {
@@ -74,6 +75,34 @@ fn first_words(slacks: &[u32; PAIRS], n: usize, lefts: &[u32; SIDE], least: &mut
     }
 }
 
+// The mark of a pair that is taken: the word of its call.
+fn mark_of(call: Call) -> u8
+    requires { ⌜ call .0 < 8 ⌝ }
+    ensures { λ r. ⌜ r ≡ 2 ^ call .0 ⌝ }
+{
+    1u8 << call.0
+}
+
+// A mark, as the word that it is.
+fn word_of(mark: u8) -> u32
+    ensures { λ r. ⌜ r ≡ mark ⌝ }
+{
+    mark as u32
+}
+
+// The calls whose pairs with the lot are marked as taken.
+fn taken_calls(taken: &[u8; PAIRS], lot: Lot) -> u32
+    requires { ⌜ (lot .0 < 8) × OwnCalls (now taken) (lot .0) ⌝ }
+    ensures { λ r. ⌜ Begins (isTaken (now (taken .entry)) (lot .0)) 8 r ⌝ }
+{
+    let i = lot.0;
+    let mut calls: u32 = 0;
+    for l in 0..SIDE {
+        calls = either(calls, word_of(taken[SIDE * i + l]));
+    }
+    calls
+}
+
 // Takes the pairs, as the plain rule does, and gives each its room at once: its units, by lot a row of m calls. At most n + m pairs have room, and
 // only for these a new state is made.
 pub fn take_all(
@@ -88,7 +117,9 @@ pub fn take_all(
     requires { ⌜ Searching (now slacks) n m total eligible remaining × (now units ≡ replicate 64 0) ⌝ }
     ensures { λ r. ⌜ TakenAll (now (slacks .entry)) n m remaining r (now (units .exit)) ⌝ }
 {
-    // By lot: the calls left to it.
+    // By lot, a row of `SIDE` calls: the mark of a pair that is taken, else 0.
+    let mut taken: [u8; PAIRS] = [0; PAIRS];
+    // By lot: the calls left to it, those that are eligible and not taken.
     let mut lefts = eligible;
     // By lot, a row of `SIDE` lots: the calls left to it at which its gap over that lot is least.
     let mut least: [u32; PAIRS] = [0; PAIRS];
@@ -109,7 +140,8 @@ pub fn take_all(
         };
         let i = lot.0;
         let j = call.0;
-        let left = without(lefts[i], j);
+        taken[SIDE * i + j] = mark_of(Call(j));
+        let left = minus(eligible[i], taken_calls(&taken, Lot(i)));
         lefts[i] = left;
         renew(slacks, Lot(i), left, &mut least);
         let room = smaller(state.lots[i], state.calls[j]);

@@ -1,42 +1,32 @@
--- Laws of ranks. Where as many pairs are eligible as there are pairs, each is (`complete-of`); where neighbours by the ranks fit, all pairs do, by
--- their costs as transport has it (`ranked-of`). Numbers as they are can be ranks too (`plain-numbered`).
-use mathlib.Core.Path.{_≡_, ap₂}
-use mathlib.Core.Bool.{cond}
+-- Laws of ranks. Where the gaps of a table of costs are filled and neighbours by the ranks fit, the problem is ranked, as transport has it
+-- (`ranked-of`). Numbers as they are can be ranks too (`plain-numbered`).
+use mathlib.Core.Path.{_≡_, _∙_, ap₂, subst}
+use mathlib.Core.Logic.{by-cases}
 use mathlib.Core.List.{List}
-use Prim.Native.Nat.{ℕ, suc, _+_, _*_, _-_, _≤_, _<_}
+use Prim.Native.Nat.{ℕ, suc, _+_, _*_, _≤_, _<_}
+use native.Mathlib.Decide.{ℕ-discrete, decLt}
 use native.Mathlib.Omega.{arith}
 use borrow.Author.Needs.{needs}
+use borrow.Author.Tests.{eq-eqb, ne-eqb}
 use lib.Dec.{T}
-use lib.ListN.{length, getD}
-use Rattle.transport.specs.Problem.{sum, Problem}
-use Rattle.transport.specs.Finder.{size}
-use Rattle.transport.proofs.Laws.Tests.{counted-le, counted-says}
-use Rattle.transport.proofs.Laws.Sums.{sum-mono, sum-le, sum-tight}
-use Rattle.transport.proofs.Finder.Ranks.{monge-of-neighbours, Renames, rank-apart, Ranked}
+use lib.ListN.{length, getD, List·getD-eq-default}
+use Rattle.transport.specs.Problem.{Problem, Eligible}
+use Rattle.transport.proofs.Laws.Tests.{T-of}
+use Rattle.transport.proofs.Finder.Ranks.{monge-of-neighbours, Renames, rank-apart, Ranked, crossed-of-filled}
 use Rattle.specification.specs.Costs.{costTop}
 use Rattle.book.specs.Table.{entry}
 use Rattle.slacks.specs.Slacks.{bySlacks, Slacks}
-use Rattle.ranks.specs.Numbered.{Numbered, Listed, Plain, costBy, FitsNext}
+use Rattle.slacks.proofs.BySlacks.{remains-says, admits-is}
+use Rattle.ranks.specs.Numbered.{Numbered, Plain, filledCost, Filled, Low, costBy, AllFit}
 
--- terms that are at most b, and whose sum is the most that there can be
-full-sum : (n b : ℕ) (f : ℕ → ℕ) → ((i : ℕ) → i < n → f i ≤ b) → n * b ≤ sum n f → (i : ℕ) → i < n → f i ≡ b
-full-sum n b f low full = sum-tight n f (λ k. b) low (omega (arith, sum-mono n f (λ k. b) low, sum-le n b (λ k. b) (λ k l. omega arith)))
+-- a cost is no more than that of a gap
+filled-le : (slack : ℕ) → filledCost slack ≤ 2 * suc costTop
+filled-le slack = by-cases (ℕ-discrete slack 0) (λ e. rw (eq-eqb slack 0 e) (omega arith)) (λ d. rw (ne-eqb slack 0 d) (omega arith))
 
--- where as many pairs are eligible as there are pairs, each row has all its calls, and so each pair is eligible
-complete-of : (P : Problem) → P .lots * P .calls ≡ size P → (i j : ℕ) → i < P .lots → j < P .calls → T (P .admits i j)
-complete-of P full i j hi hj = counted-says (P .admits i j) 1 (omega (
-  arith,
-  full-sum (P .calls) 1 (ones i) (λ l h. counted-le (P .admits i l) 1) (omega (arith, full-sum (P .lots) (P .calls) row few (omega arith) i hi)) j hj,
-))
-  where
-    ones : ℕ → ℕ → ℕ
-    ones k l = cond (P .admits k l) 1 0
-
-    row : ℕ → ℕ
-    row k = sum (P .calls) (ones k)
-
-    few : (k : ℕ) → k < P .lots → row k ≤ P .calls
-    few k h = omega (arith, sum-le (P .calls) 1 (ones k) (λ l g. counted-le (P .admits k l) 1))
+pub low-of : {slacks costs : List ℕ} → Filled slacks costs → Low costs
+low-of {slacks} {costs} f x = by-cases (decLt x 1024)
+    (λ h. omega (arith, f .each x h, filled-le (getD slacks x 0)))
+    (λ o. omega (arith, List·getD-eq-default {A = ℕ} costs 0 {n = x} (omega (arith, f .long))))
 
 -- numbers as they are
 plain-renames : {n : ℕ} {own : ℕ → ℕ} → n ≤ 32 → ((x : ℕ) → x < 32 → own x ≡ x) → Renames n own own
@@ -55,23 +45,33 @@ module _ {slacks : List ℕ} {n m : ℕ} (s : Slacks slacks n m) where
       let calls = plain-renames {own = λ x. getD lines (32 + x) 0} (s .calls-few) (λ x h. omega (arith, plain (32 + x) (omega arith))) in
       search needs
 
-  -- ranks that are checked
-  pub ranked-of : {names ranks : List ℕ} → Listed names ranks → n * m ≡ size (bySlacks slacks n m)
-      → Renames n (λ i. getD ranks i 0) (λ p. getD names p 0) → Renames m (λ j. getD ranks (32 + j) 0) (λ q. getD names (32 + q) 0)
-      → ((p : ℕ) → p + 1 < n → (q : ℕ) → q + 1 < m → FitsNext slacks names p q)
-      → Numbered n m names ranks × Ranked (bySlacks slacks n m) (λ i. getD ranks i 0) (λ j. getD ranks (32 + j) 0)
-  ranked-of {names} {ranks} long full lots calls next = (
-    search needs,
-    record {
-      complete = complete-of (bySlacks slacks n m) full;
-      lots-apart = rank-apart lots;
-      calls-apart = rank-apart calls;
-      monge = λ i k j l hi hk hj hl h g. rw (at i j hi hj, at k l hk hl, at i l hi hl, at k j hk hj) at (
-          monge-of-neighbours (costBy slacks names) n m (λ p q h g. next p h q g) (getD ranks i 0) (getD ranks k 0)
-          (getD ranks (32 + j) 0) (getD ranks (32 + l) 0) h (lots .rank-below k hk) g (calls .rank-below l hl));
-    },
-  )
-    where
-      at : (i j : ℕ) → i < n → j < m → costBy slacks names (getD ranks i 0) (getD ranks (32 + j) 0) ≡ suc costTop - entry slacks i j
-      at i j hi hj = ap₂ (λ x y. suc costTop - entry slacks x y)
-          (omega (arith, lots .at-rank i hi, s .lots-few)) (omega (arith, calls .at-rank j hj, s .calls-few))
+  module _ {costs : List ℕ} (f : Filled slacks costs) where
+    abbrev P : Problem
+    P = bySlacks slacks n m
+
+    -- an eligible pair has its cost, which is at most the limit, and another that of a gap
+    own : (i j : ℕ) → Eligible P i j → (entry costs i j ≡ P .cost i j) × (P .cost i j ≤ costTop)
+    own i j (hi, hj, t) =
+        let has = remains-says slacks i j (subst T (admits-is slacks n m i j hi hj) t) in
+        (f .each (32 * i + j) (omega (arith, s .lots-few, s .calls-few)) ∙ rw (ne-eqb (entry slacks i j) 0 (λ e. omega arith)), omega arith)
+
+    gap : (i j k l x y : ℕ) → i < n → j < m → (T (P .admits i j) → ⊥) → Eligible P k l → Eligible P x y → P .cost k l + P .cost x y < entry costs i j
+    gap i j k l x y hi hj none kl xy = by-cases (ℕ-discrete (entry slacks i j) 0)
+        (λ e. let is : entry costs i j ≡ 2 * suc costTop = f .each (32 * i + j) (omega (arith, s .lots-few, s .calls-few)) ∙ rw (eq-eqb (entry slacks i j) 0 e) in
+        omega (arith, own k l kl .1, own x y xy .1))
+        (λ d. absurd (none (T-of (admits-is slacks n m i j hi hj ∙ rw (ne-eqb (entry slacks i j) 0 d)))))
+
+    -- ranks by which all neighbours fit
+    pub ranked-of : {names ranks : List ℕ} → Numbered n m names ranks → AllFit costs names n m
+        → Ranked P (λ i. getD ranks i 0) (λ j. getD ranks (32 + j) 0)
+    ranked-of {names} {ranks} r fit = record {
+      lots-apart = rank-apart (r .lots-named);
+      calls-apart = rank-apart (r .calls-named);
+      monge = λ i k j l il kj h g. crossed-of-filled (entry costs) (λ i j e. own i j e .0) gap i k j l il kj
+          (rw (at i j (il .0) (kj .1), at k l (kj .0) (il .1), at i l (il .0) (il .1), at k j (kj .0) (kj .1)) at (
+          monge-of-neighbours (costBy costs names) n m (λ p q h g. fit p h q g) (getD ranks i 0) (getD ranks k 0)
+          (getD ranks (32 + j) 0) (getD ranks (32 + l) 0) h (r .lots-named .rank-below k (kj .0)) g (r .calls-named .rank-below l (il .1))));
+    }
+      where
+        at : (i j : ℕ) → i < n → j < m → costBy costs names (getD ranks i 0) (getD ranks (32 + j) 0) ≡ entry costs i j
+        at i j hi hj = ap₂ (entry costs) (r .lots-named .at-rank i hi) (r .calls-named .at-rank j hj)

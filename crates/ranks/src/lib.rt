@@ -1,22 +1,22 @@
-// Lots and calls numbered anew, by ranks: where all pairs are eligible, ranks are guessed, and kept where the slacks are Monge by them. Else each
-// lot and each call has its own number as its rank.
+// Lots and calls numbered anew, by ranks by which the book is Monge, pairs missing or not: ranks are guessed, and kept where the table of costs is
+// Monge by them, its gaps filled with a number above any two costs. Else each lot and each call has its own number as its rank.
 mod guess;
 
 use files::wide;
-use guess::guess;
+use guess::by_costs;
 use slacks::PAIRS;
 use slacks::SIDE;
 use slacks::SLACK_MOST;
 use slacks::entry_at;
+use specification::Call;
+use specification::Lot;
 ghost use mathlib.Core.Path.{_≡_};
 ghost use mathlib.Core.Bool.{true, false};
-ghost use Prim.Native.Nat.{suc, _+_, _*_, _≤_, _<_};
+ghost use Prim.Native.Nat.{ℕ, _+_, _≤_, _<_};
 ghost use lib.ListN.{length, getD};
-ghost use Rattle.transport.specs.Finder.{size};
 ghost use Rattle.transport.proofs.Finder.Ranks.{Renames, Ranked};
-ghost use Rattle.specification.specs.Costs.{costTop};
 ghost use Rattle.slacks.specs.Slacks.{bySlacks, Capped, Slacks};
-ghost use Rattle.ranks.specs.Numbered.{Numbered, Listed, Plain, costBy};
+ghost use Rattle.ranks.specs.Numbered.{Numbered, Listed, Plain, Filled, Low, fitsBy, AllFit};
 
 // A line is a lot or a call: line i is lot i, and line SIDE + j is call j.
 pub const LINES: usize = 2 * SIDE;
@@ -24,7 +24,10 @@ pub const LINES: usize = 2 * SIDE;
 // A number for each line: names has the lot of rank p at p and the call of rank q at SIDE + q, and ranks the rank of each line.
 pub type Lines = [u8; LINES];
 
-// What a list of lines holds for number x, of those from a line on.
+// The cost that a gap counts as, a pair that is not eligible: more than any two costs together.
+pub const GAP_COST: u32 = 2 * SLACK_MOST;
+
+// What a list of lines holds for x, a lot or a call by the line that it is counted from.
 fn line_at(lines: &Lines, from: usize, x: usize) -> usize
     requires { ⌜ (from ≤ 32) × (x < 32) ⌝ }
     ensures { λ r. ⌜ r ≡ getD (now (lines .entry)) (from + x) 0 ⌝ }
@@ -56,41 +59,32 @@ fn renames(names: &Lines, ranks: &Lines, from: usize, n: usize) -> bool
     true
 }
 
-// The cost of the lot of rank p and the call of rank q. A name that is not checked yet counts as its remainder, so that it is safe.
-fn cost_by(slacks: &[u32; PAIRS], names: &Lines, p: usize, q: usize) -> u32
-    requires { ⌜ Capped (now slacks) × (p < 32) × (q < 32) ⌝ }
-    ensures { λ r. ⌜ (r ≡ costBy (now (slacks .entry)) (now (names .entry)) p q) × (r ≤ suc costTop) ⌝ }
+// Whether a pair fits with a corner, another lot and another call, by their costs. A gap is dearer than two costs together, so none fits with it.
+pub fn fits(costs: &[u32; PAIRS], lot: Lot, call: Call, other: Lot, corner: Call) -> bool
+    requires { ⌜ (lot .0 < 32) × (call .0 < 32) × (other .0 < 32) × (corner .0 < 32) × Low (now costs) ⌝ }
+    ensures { λ r. ⌜ r ≡ fitsBy (now (costs .entry)) (lot .0) (call .0) (other .0) (corner .0) ⌝ }
 {
-    let lot = line_at(names, 0, p) % SIDE;
-    let call = line_at(names, SIDE, q) % SIDE;
-    SLACK_MOST - entry_at(slacks, lot, call)
+    entry_at(costs, Lot(lot.0), Call(call.0)) + entry_at(costs, Lot(other.0), Call(corner.0))
+        <= entry_at(costs, lot, corner) + entry_at(costs, other, call)
 }
 
-// How far the cost at the call of rank q rises from the lot of rank p to the next, with the most that it can fall added.
-fn rise(slacks: &[u32; PAIRS], names: &Lines, p: usize, q: usize) -> u32
-    requires { ⌜ Capped (now slacks) × (p < 31) × (q < 32) ⌝ }
-    ensures { λ r. ⌜ r + costBy (now (slacks .entry)) (now (names .entry)) p q
-        ≡ suc costTop + costBy (now (slacks .entry)) (now (names .entry)) (p + 1) q ⌝ }
+// Whether all neighbours by the ranks fit.
+fn all_fit(costs: &[u32; PAIRS], n: usize, m: usize, names: &Lines) -> bool
+    requires { ⌜ Low (now costs) × (n ≤ 32) × (m ≤ 32) × ((p : ℕ) → p < n → getD (now names) p 0 < n)
+        × ((q : ℕ) → q < m → getD (now names) (32 + q) 0 < m) ⌝ }
+    ensures { λ r. ⌜ (r ≡ true → AllFit (now (costs .entry)) (now (names .entry)) n m) ⌝ }
 {
-    SLACK_MOST + cost_by(slacks, names, p + 1, q) - cost_by(slacks, names, p, q)
-}
-
-// Whether lots and calls are named anew, and all neighbours by their ranks fit.
-fn passes(slacks: &[u32; PAIRS], n: usize, m: usize, names: &Lines, ranks: &Lines) -> bool
-    requires { ⌜ Slacks (now slacks) n m × (n * m ≡ size (bySlacks (now slacks) n m)) × Listed (now names) (now ranks) ⌝ }
-    ensures { λ r. ⌜ (r ≡ true → Numbered n m (now (names .entry)) (now (ranks .entry)) × Ranked (bySlacks (now (slacks .entry)) n m)
-        (λ i. getD (now (ranks .entry)) i 0) (λ j. getD (now (ranks .entry)) (32 + j) 0)) ⌝ }
-{
-    if !renames(names, ranks, 0, n) || !renames(names, ranks, SIDE, m) {
-        return false;
-    }
     let mut p = 0;
     while p + 1 < n {
+        let i = wide(names[p]);
+        let k = wide(names[p + 1]);
         // Whether neighbours of ranks p and p + 1 do not fit. All are tried, so that there is no branch.
         let mut found = false;
         let mut q = 0;
         while q + 1 < m {
-            found = rise(slacks, names, p, q) < rise(slacks, names, p, q + 1) || found;
+            let j = line_at(names, SIDE, q);
+            let l = line_at(names, SIDE, q + 1);
+            found = !fits(costs, Lot(i), Call(j), Lot(k), Call(l)) || found;
             q += 1;
         }
         if found {
@@ -99,6 +93,17 @@ fn passes(slacks: &[u32; PAIRS], n: usize, m: usize, names: &Lines, ranks: &Line
         p += 1;
     }
     true
+}
+
+// Whether lots and calls are named anew, and all neighbours by their ranks fit.
+fn passes(costs: &[u32; PAIRS], n: usize, m: usize, names: &Lines, ranks: &Lines) -> bool
+    requires { ⌜ Low (now costs) × (n ≤ 32) × (m ≤ 32) × Listed (now names) (now ranks) ⌝ }
+    ensures { λ r. ⌜ (r ≡ true → Numbered n m (now (names .entry)) (now (ranks .entry)) × AllFit (now (costs .entry)) (now (names .entry)) n m) ⌝ }
+{
+    if !renames(names, ranks, 0, n) || !renames(names, ranks, SIDE, m) {
+        return false;
+    }
+    all_fit(costs, n, m, names)
 }
 
 // Each lot and each call has its own number.
@@ -112,28 +117,52 @@ fn numbers() -> Lines
     lines
 }
 
-// Numbers the lots and the calls, of which `total` pairs are eligible: the names by rank, and the ranks. Whether the slacks are Monge by the ranks.
+// The cost of each pair by its slack, and that of a gap where it has none.
+fn fill(slacks: &[u32; PAIRS], costs: &mut [u32; PAIRS])
+    requires { ⌜ Capped (now slacks) × (length (now costs) ≡ 1024) ⌝ }
+    ensures { λ r. ⌜ Filled (now (slacks .entry)) (now (costs .exit)) ⌝ }
+{
+    for x in 0..PAIRS {
+        let slack = slacks[x];
+        costs[x] = if slack == 0 {
+            GAP_COST
+        } else {
+            SLACK_MOST - slack
+        };
+    }
+}
+
+// Numbers the lots and the calls, of which `total` pairs are eligible: the names by rank, and the ranks. Whether the book is Monge by the ranks, with
+// the table of its costs then. A book with more than `SIDE` gaps is not tried.
 pub fn rank(
     slacks: &[u32; PAIRS],
     n: usize,
     m: usize,
     total: usize,
+    costs: &mut [u32; PAIRS],
     names: &mut Lines,
     ranks: &mut Lines,
 ) -> bool
-    requires { ⌜ Slacks (now slacks) n m × (total ≡ size (bySlacks (now slacks) n m)) × Listed (now names) (now ranks) ⌝ }
-    ensures { λ r. ⌜ Numbered n m (now (names .exit)) (now (ranks .exit)) ⌝ }
-    ensures { λ r. ⌜ (r ≡ true → Ranked (bySlacks (now (slacks .entry)) n m)
+    requires { ⌜ Slacks (now slacks) n m × (total ≤ 1024) × (length (now costs) ≡ 1024) × Listed (now names) (now ranks) ⌝ }
+    ensures { λ r. ⌜ Numbered n m (now (names .exit)) (now (ranks .exit)) × (length (now (costs .exit)) ≡ 1024) ⌝ }
+    ensures { λ r. ⌜ (r ≡ true → Filled (now (slacks .entry)) (now (costs .exit)) × Ranked (bySlacks (now (slacks .entry)) n m)
         (λ i. getD (now (ranks .exit)) i 0) (λ j. getD (now (ranks .exit)) (32 + j) 0)) ⌝ }
-    ensures { λ r. ⌜ (r ≡ false → Plain (now (names .exit)) × Plain (now (ranks .exit))) ⌝ }
+    ensures { λ r. ⌜ (r ≡ false → Plain (now (ranks .exit))) ⌝ }
 {
-    if total == n * m {
-        guess(slacks, n, m, names, ranks);
-        if passes(slacks, n, m, names, ranks) {
-            return true;
-        }
-    }
     let plain = numbers();
+    *names = plain;
+    *ranks = plain;
+    if total + SIDE < n * m {
+        return false;
+    }
+    fill(slacks, costs);
+    if all_fit(costs, n, m, names) {
+        return true;
+    }
+    by_costs(costs, n, m, names, ranks);
+    if passes(costs, n, m, names, ranks) {
+        return true;
+    }
     *names = plain;
     *ranks = plain;
     false

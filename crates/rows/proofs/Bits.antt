@@ -2,7 +2,7 @@
 -- set bits below a bit grows by one past each set bit, so that c of them below bit c are all.
 use mathlib.Core.Path.{_≡_, refl, sym, ap, _∙_}
 use Prim.Native.Nat.{ℕ, zero, suc, _+_, _*_, _/_, _%_, _-_, _^_, _≤_, _<_}
-use native.Mathlib.Nat.{lt-of-lt-of-le, lt-of-le-of-lt, mod-le, mod-lt, mod-eq-of-lt, div-one, div-eq-of-lt, div-le-self, mod-one, one-mul, add-zero, add-comm, div-add-mod', pow-suc}
+use native.Mathlib.Nat.{lt-of-lt-of-le, lt-of-le-of-lt, mod-le, mod-lt, mod-eq-of-lt, div-one, div-eq-of-lt, div-le-self, mod-one, one-mul, add-zero, div-add-mod', pow-suc}
 use native.Mathlib.Omega.{arith}
 use mathlib.Core.Bool.{Bool, true, false, true≢false}
 use mathlib.Core.Logic.{⊎-elim}
@@ -10,8 +10,9 @@ use Rattle.files.proofs.Parts.{le-or-lt}
 use borrow.Author.Tests.{eqb-true, eqb-false}
 use lib.Dec.{eqb, lit<}
 use lib.Count.{ones, ones-le, ones-cat, trailingZeros, under}
-use lib.Pow.{pow-pos, pow-mono, shl-exact, shr-shr, mod-pow-add}
+use lib.Pow.{pow-pos, pow-mono, shl-exact, shr-shr}
 use Rattle.specification.specs.Book.{bit}
+use Rattle.specification.proofs.Bits.{ones-next}
 use Rattle.rows.specs.Words.{onesBelow, SetFrom}
 
 pub below-power : {word : ℕ} (j : ℕ) → word < 2 ^ 32 → 32 ≤ j → word < 2 ^ j
@@ -34,32 +35,18 @@ ones-below-all word j = omega (
   ones-cat j (word / 2 ^ j) (word % 2 ^ j) (mod-lt word (pow-pos j)),
 )
 
--- one more bit: it counts itself
-ones-bit : (b : ℕ) → b < 2 → ones b ≡ b
-unfolding ones
-ones-bit zero h = refl
-ones-bit (suc zero) h = refl
-ones-bit (suc (suc b)) h = absurd (omega arith)
-
-ones-below-next : (word j : ℕ) → onesBelow word (j + 1) ≡ onesBelow word j + word / 2 ^ j % 2
-ones-below-next word j =
-    let b = word / 2 ^ j % 2 in
-    ap (λ (k : ℕ). ones (word % 2 ^ k)) (add-comm j 1) ∙ ap ones (mod-pow-add word 1 j)
-    ∙ ones-cat j b (word % 2 ^ j) (mod-lt word (pow-pos j))
-    ∙ ap (λ (n : ℕ). n + onesBelow word j) (ones-bit b (mod-lt (word / 2 ^ j) (lit< tt))) ∙ add-comm b (onesBelow word j)
-
 pub ones-below-none : (word : ℕ) → onesBelow word 0 ≡ 0
 unfolding ones
 ones-below-none word = ap ones (mod-one word)
 
 pub ones-below-set : (word j : ℕ) → bit word j ≡ true → onesBelow word (j + 1) ≡ onesBelow word j + 1
-ones-below-set word j e = omega (arith, ones-below-next word j, eqb-true (word / 2 ^ j % 2) 1 e)
+ones-below-set word j e = omega (arith, ones-next word j, eqb-true (word / 2 ^ j % 2) 1 e)
 
 pub ones-below-unset : (word j : ℕ) → bit word j ≡ false → onesBelow word (j + 1) ≡ onesBelow word j
 ones-below-unset word j e =
     let n = eqb-false (word / 2 ^ j % 2) 1 e in
     let l = mod-lt (word / 2 ^ j) {m = 2} (lit< tt) in
-    omega (arith, ones-below-next word j, n, l)
+    omega (arith, ones-next word j, n, l)
 
 -- clear bits add nothing
 pub ones-below-clear : (word j d : ℕ) → ((k : ℕ) → j ≤ k → k < j + d → bit word k ≡ false) → onesBelow word (j + d) ≡ onesBelow word j
@@ -74,7 +61,7 @@ ones-below-slow : (word l d : ℕ) → onesBelow word (l + d) ≤ onesBelow word
 ones-below-slow word l zero = let e : l + 0 ≡ l = omega arith in rw e (omega arith)
 ones-below-slow word l (suc d) =
     let e : l + suc d ≡ l + d + 1 = omega arith in
-    rw e (omega (arith, ones-below-next word (l + d), mod-lt (word / 2 ^ (l + d)) {m = 2} (lit< tt), ones-below-slow word l d))
+    rw e (omega (arith, ones-next word (l + d), mod-lt (word / 2 ^ (l + d)) {m = 2} (lit< tt), ones-below-slow word l d))
 
 module _ (word c : ℕ) (all : onesBelow word c ≡ c) where
   pub ones-below-full : (l : ℕ) → l ≤ c → onesBelow word l ≡ l

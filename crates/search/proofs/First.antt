@@ -1,7 +1,7 @@
 -- What the search keeps at first: all eligible pairs are left, none is marked, and each lot is to be asked.
-use mathlib.Core.Path.{_≡_, refl, sym, _∙_, ap}
+use mathlib.Core.Path.{_≡_, sym, _∙_, ap}
 use mathlib.Core.Logic.{by-cases}
-use mathlib.Core.Bool.{Bool, true, false, cond, true≢false, Bool-discrete}
+use mathlib.Core.Bool.{Bool, true, false, cond, and-true, true≢false}
 use mathlib.Core.List.{List}
 use Prim.Native.Nat.{ℕ, suc, _+_, _*_, _≤_, _<_}
 use native.Mathlib.Decide.{decLt}
@@ -16,49 +16,33 @@ use Rattle.slacks.specs.Slacks.{bySlacks}
 use Rattle.slacks.proofs.BySlacks.{zeros-at, admits-is, size-few}
 use Rattle.slacks.proofs.Going.{Going, going-start}
 use Rattle.transport.specs.Finder.{size}
-use Rattle.transport.proofs.Laws.Tests.{T-true, false-of}
 use Rattle.words.specs.Words.{Below}
 use Rattle.words.specs.Lefts.{isLeft}
 use Rattle.words.proofs.Sets.{bit-none, bit-all}
-use Rattle.ranks.specs.Numbered.{Plain}
-use Rattle.lines.specs.Lines.{Lined, Ended, Settled}
+use Rattle.ranks.specs.Numbered.{Filled}
+use Rattle.lines.specs.Lines.{Lined, Ended}
 use Rattle.trial.specs.Testing.{raisedOf, Raised}
 use Rattle.trial.specs.Left.{Table}
-use Rattle.search.specs.Marks.{Half, Asked, Standing}
+use Rattle.search.specs.Marks.{Half, Asked, TakenMarks, Standing}
 
 -- no mark stands at first
 half-first : {ranked : Bool} {slacks lefts nears fars : List ℕ} → Half ranked slacks lefts nears fars (replicate 32 0) (replicate 32 0)
 half-first = record {
   hindered = λ i j on e. absurd (true≢false (sym e ∙ clear i j));
-  waits-are = record { waiting = λ i j e. absurd (true≢false (sym e ∙ clear i j)); long = length-replicate {A = ℕ} 32 0 };
+  waits-are = record { waiting = λ i j e. absurd (true≢false (sym e ∙ clear i j)); long = length-replicate {A = ℕ} 32 0; waits-long = length-replicate {A = ℕ} 32 0 };
 }
   where
     clear : (i j : ℕ) → isLeft (replicate 32 0) i j ≡ false
     clear i j = ap (λ (w : ℕ). bit w j) (zeros-at 32 i) ∙ bit-none j
 
+-- no pair is taken at first
+pub taken-first : {eligible : List ℕ} → TakenMarks eligible eligible (replicate 1024 0)
+taken-first {eligible} = record {
+  each = λ i j hi hj. rw (eq-eqb _ 0 (zeros-at 1024 (32 * i + j))) (sym (and-true (isLeft eligible i j)));
+  long = length-replicate {A = ℕ} 1024 0;
+}
+
 module _ {ranked : Bool} {slacks : List ℕ} {n m : ℕ} {names ranks eligible : List ℕ} (t : Table ranked slacks n m names ranks eligible) where
-  -- where a pair is eligible: by ranks each pair is, and with plain numbers the one that is the same
-  moved : {i j k l : ℕ} → isLeft eligible i j ≡ true → k < n → l < m → (Plain names → Plain ranks → (k ≡ i) × (l ≡ j)) → isLeft eligible k l ≡ true
-  moved {k} {l} e hk hl same = by-cases (Bool-discrete ranked true)
-      (λ y. t .eligible-are .each k l hk hl ∙ sym (admits-is slacks n m k l hk hl) ∙ T-true _ (t .monge y .complete k l hk hl))
-      (λ o. let (a, r) = t .plain (false-of ranked o) in rw (same a r .0, same a r .1) e)
-
-  -- so each stays eligible by ranks and by names
-  pub settled-first : (i j : ℕ) → isLeft eligible i j ≡ true → Settled names ranks eligible i j
-  settled-first i j e =
-      let (hi, hj) = t .eligible-are .inside i j e in
-      let k = t .numbered in
-      let lots = k .lots-named in
-      let calls = k .calls-named in
-      record {
-        lot-few = omega (arith, hi, k .lots-few);
-        call-few = omega (arith, hj, k .calls-few);
-        by-rank = record { is-on = moved e hi (calls .rank-below j hj) (λ a r. (refl, omega (arith, r (32 + j) (omega (arith, hj, k .calls-few))))); named = calls .at-rank j hj };
-        by-name = record { is-on = moved e hi (calls .at-below j hj) (λ a r. (refl, omega (arith, a (32 + j) (omega (arith, hj, k .calls-few))))); named = calls .rank-at j hj };
-        lot-by-rank = (moved e (lots .rank-below i hi) hj (λ a r. (omega (arith, r i (omega (arith, hi, k .lots-few))), refl)), lots .at-rank i hi);
-        lot-by-name = (moved e (lots .at-below i hi) hj (λ a r. (omega (arith, a i (omega (arith, hi, k .lots-few))), refl)), lots .rank-at i hi);
-      }
-
   -- a pair that is not eligible has no slack
   no-slack : (i l : ℕ) → i < n → l < 32 → isLeft eligible i l ≡ false → entry slacks i l ≡ 0
   no-slack i l hi hl e = by-cases (decLt l m)
@@ -83,15 +67,17 @@ module _ {ranked : Bool} {slacks : List ℕ} {n m : ℕ} {names ranks eligible :
       raised-le b v = elim b [ true ↦ omega arith | false ↦ omega arith ]
 
   module _ {lines nears fars raised : List ℕ} (lined : Lined names ranks eligible lines) (ended : Ended names lines nears fars)
-      (raises : ranked ≡ false → (x : ℕ) → x < 1024 → getD raised x 0 ≡ raisedOf (getD slacks x 0)) (long : length raised ≡ 1024) where
+      (raises : ranked ≡ false → (x : ℕ) → x < 1024 → getD raised x 0 ≡ raisedOf (getD slacks x 0)) (long : length raised ≡ 1024)
+      (filled : ranked ≡ true → Filled slacks raised) where
     pub standing-first : Standing ranked slacks names ranks eligible eligible lines nears fars raised (replicate 1024 0) (replicate 32 0)
-        (replicate 32 0) (replicate 32 0)
+        (replicate 32 0) (replicate 32 0) (replicate 32 0)
     standing-first = record {
       left = record {
         among = λ i j e. e;
         lined = lined;
         ended = ended;
         raised-is = λ e. raised-first raised (raises e) long;
+        costs-are = filled;
         lefts-long = t .eligible-are .long;
         raised-long = long;
       };
@@ -99,7 +85,7 @@ module _ {ranked : Bool} {slacks : List ℕ} {n m : ℕ} {names ranks eligible :
         each = λ i j p hi hj lt. absurd (omega (arith, zeros-at 1024 (32 * i + j)));
         long = length-replicate {A = ℕ} 1024 0;
       };
-      marks = record { low-half = half-first; high-half = half-first; waits-long = length-replicate {A = ℕ} 32 0 };
+      marks = record { low-half = half-first; high-half = half-first };
     }
 
   pub asked-first : {some : ℕ} {low high : List ℕ} → Below 4294967295 n some → Asked eligible low high some

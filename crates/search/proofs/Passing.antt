@@ -4,7 +4,7 @@ use mathlib.Core.Path.{_≡_, sym, _∙_}
 use mathlib.Core.Bool.{Bool, true}
 use mathlib.Core.List.{List}
 use mathlib.Core.Option.{some, none}
-use Prim.Native.Nat.{ℕ, _+_, _*_}
+use Prim.Native.Nat.{ℕ, _+_, _*_, _<_}
 use native.Mathlib.Omega.{arith}
 use Rattle.transport.specs.Problem.{Problem}
 use Rattle.transport.specs.Greedy.{pair}
@@ -30,6 +30,9 @@ module _ {ranked : Bool} {slacks : List ℕ} {n m : ℕ} {names ranks eligible l
   -- what is left is in the problem
   left-in : (i j : ℕ) → isLeft lefts i j ≡ true → Remains P (isLeft lefts) i j
   left-in i j e = let (hi, hj) = t .eligible-are .inside i j (h .among i j e) in (hi, hj, T-of e)
+
+  pub left-few : (i j : ℕ) → isLeft lefts i j ≡ true → (i < 32) × (j < 32)
+  left-few i j e = let (hi, hj, _) = left-in i j e in (omega (arith, t .slacks-are .lots-few), omega (arith, t .slacks-are .calls-few))
 
   -- (i, j) fits with (k, l) by the slacks exactly where it does in the problem
   takeable-of : (i j : ℕ) → Passes slacks lefts i j → Takeable P (isLeft lefts) i j

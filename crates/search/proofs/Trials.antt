@@ -6,7 +6,6 @@ use mathlib.Core.Bool.{Bool, true, false, _&&_, _||_, or-true}
 use mathlib.Core.List.{List}
 use Prim.Native.Nat.{ℕ, _<_}
 use native.Mathlib.Decide.{ℕ-discrete}
-use native.Mathlib.Omega.{arith}
 use borrow.Author.Tests.{eqb-true, eq-eqb, ne-eqb, not-false}
 use lib.Dec.{eqb}
 use lib.ListN.{length, getD, set, length-set}
@@ -20,19 +19,15 @@ use Rattle.words.proofs.Changes.{was-in}
 use Rattle.trial.specs.Testing.{Passes}
 use Rattle.trial.specs.Left.{HinderedIn, Halves}
 use Rattle.search.specs.Marks.{Half, Marks, marked, Asked}
-use Rattle.search.specs.Steps.{FirstCall, FirstPair}
+use Rattle.search.specs.Steps.{PutIf, AskedBelow, FirstPair}
 
 -- one of two tests holds
-or-elim : {A : Type 0} (a b : Bool) → (a || b) ≡ true → (a ≡ true → A) → (b ≡ true → A) → A
+pub or-elim : {A : Type 0} (a b : Bool) → (a || b) ≡ true → (a ≡ true → A) → (b ≡ true → A) → A
 or-elim true b e f g = f refl
 or-elim false b e f g = g e
 
--- ---- number j put into word i of a list, where a test holds
-record PutIf (test : Bool) (i j : ℕ) (words words′ : List ℕ) : Type 0 where
-  each : (a l : ℕ) → isLeft words′ a l ≡ ((eqb a i && (eqb l j && test)) || isLeft words a l)
-  long : length words′ ≡ length words
-
-put-set : {test : Bool} {i j w : ℕ} {words : List ℕ} → IncludingIf test (getD words i 0) j w → i < length words → PutIf test i j words (set words i w)
+-- ---- a number put into a word
+pub put-set : {test : Bool} {i j w : ℕ} {words : List ℕ} → IncludingIf test (getD words i 0) j w → i < length words → PutIf test i j words (set words i w)
 put-set {i = i} {j} {w} {words} r h = record {
   each = λ a l. by-cases (ℕ-discrete a i)
       (λ y. by-cases (ℕ-discrete l j)
@@ -60,12 +55,13 @@ module _ {test : Bool} {i j : ℕ} {words words′ : List ℕ} (q : PutIf test i
 -- ---- a mark more
 half-more : {ranked : Bool} {slacks lefts nears fars waits waits′ marks marks′ : List ℕ} {test : Bool} {i j : ℕ}
     → Half ranked slacks lefts nears fars waits marks → (test ≡ true → HinderedIn ranked slacks lefts nears fars i j)
-    → PutIf test i j marks marks′ → PutIf true j i waits waits′ → Half ranked slacks lefts nears fars waits′ marks′
+    → PutIf test i j marks marks′ → PutIf test j i waits waits′ → Half ranked slacks lefts nears fars waits′ marks′
 half-more {ranked} {slacks} {lefts} {nears} {fars} {waits′ = waits′} h told q w = record {
   hindered = λ a l on e. put-says q (HinderedIn ranked slacks lefts nears fars) a l e (h .hindered a l on) told;
   waits-are = record {
-    waiting = λ a l e. put-says q (λ (a l : ℕ). isLeft waits′ l a ≡ true) a l e (λ was. put-grows w l a (h .waits-are .waiting a l was)) (λ _. put-in w refl);
+    waiting = λ a l e. put-says q (λ (a l : ℕ). isLeft waits′ l a ≡ true) a l e (λ was. put-grows w l a (h .waits-are .waiting a l was)) (put-in w);
     long = q .long ∙ h .waits-are .long;
+    waits-long = w .long ∙ h .waits-are .waits-long;
   };
 }
 
@@ -73,7 +69,7 @@ half-more {ranked} {slacks} {lefts} {nears} {fars} {waits′ = waits′} h told 
 hindered-not : {ranked : Bool} {slacks lefts nears fars : List ℕ} {i j : ℕ} → HinderedIn ranked slacks lefts nears fars i j → Passes slacks lefts i j → ⊥
 hindered-not r p = r .by-it .unfit (p .passed (r .lot) .fits (r .by-it .held) (r .call) (r .by-it .left))
 
-marked-not : {ranked : Bool} {slacks lefts nears fars waits low high : List ℕ} → Marks ranked slacks lefts nears fars waits low high
+marked-not : {ranked : Bool} {slacks lefts nears fars lows highs low high : List ℕ} → Marks ranked slacks lefts nears fars lows highs low high
     → (i j : ℕ) → marked low high i j ≡ true → Passes slacks lefts i j → ⊥
 marked-not {low = low} {high} h i j e p = or-elim (isLeft low i j) (isLeft high i j) e
     (λ f. hindered-not (h .low-half .hindered i j (p .on) f) p)
@@ -94,47 +90,32 @@ trials-first {lefts} {i = i} {both} b w = record {
 }
 
 -- one is tried and marked
-pub trials-next : {ranked : Bool} {slacks lefts nears fars waits low₀ low high₀ high : List ℕ} {i j asks after x y z : ℕ} {in-low in-high : Bool}
-    → Trials lefts low₀ low high₀ high i asks → Marks ranked slacks lefts nears fars waits low high
-    → Halves ranked slacks lefts nears fars i j in-low in-high → i < 32 → j < 32 → Without asks j after
-    → IncludingIf true (getD waits j 0) i x → IncludingIf in-low (getD low i 0) j y → IncludingIf in-high (getD high i 0) j z
-    → Trials lefts low₀ (set low i y) high₀ (set high i z) i after × Marks ranked slacks lefts nears fars (set waits j x) (set low i y) (set high i z)
-trials-next {waits = waits} {low = low} {high = high} {i} {j} {x = x} {y} {z} {in-low} {in-high} t h halves hi hj w in-waits in-l in-h =
-    let q : PutIf true j i waits (set waits j x) = put-set in-waits (omega (arith, h .waits-long)) in
-    let l : PutIf in-low i j low (set low i y) = put-set in-l (omega (arith, h .low-half .waits-are .long)) in
-    let u : PutIf in-high i j high (set high i z) = put-set in-h (omega (arith, h .high-half .waits-are .long)) in (
-      record {
-        untried = λ l′ on off. by-cases (ℕ-discrete l′ j)
-            (λ e. rw e (or-elim in-low in-high (halves .told) (λ f. rw (put-in l f)) (λ f. rw (put-in u f) (or-true (isLeft (set low i y) i j)))))
-            (λ d. or-elim (isLeft low i l′) _ (t .untried l′ on (sym (w .others l′ d) ∙ off)) (λ f. rw (put-grows l i l′ f)) (λ f. rw (put-grows u i l′ f) (or-true (isLeft (set low i y) i l′))));
-        among = λ l′ on. t .among l′ (was-in w l′ on);
-        others = λ k l′ d. rw (l .each k l′, u .each k l′, ne-eqb k i d) (t .others k l′ d);
-      },
-      record {
-        low-half = half-more (h .low-half) (halves .low-told) l q;
-        high-half = half-more (h .high-half) (halves .high-told) u q;
-        waits-long = q .long ∙ h .waits-long;
-      },
-    )
+pub trials-next : {ranked : Bool} {slacks lefts nears fars lows lows′ highs highs′ low₀ low low′ high₀ high high′ : List ℕ} {i j asks after : ℕ} {in-low in-high : Bool}
+    → Trials lefts low₀ low high₀ high i asks → Marks ranked slacks lefts nears fars lows highs low high
+    → Halves ranked slacks lefts nears fars i j in-low in-high → Without asks j after → PutIf in-low i j low low′ × PutIf in-low j i lows lows′
+    → PutIf in-high i j high high′ × PutIf in-high j i highs highs′
+    → Trials lefts low₀ low′ high₀ high′ i after × Marks ranked slacks lefts nears fars lows′ highs′ low′ high′
+trials-next {low = low} {low′} {i = i} {j} {in-low = in-low} {in-high} t h halves w (l, lw) (u, hw) = (
+  record {
+    untried = λ l′ on off. by-cases (ℕ-discrete l′ j)
+        (λ e. rw e (or-elim in-low in-high (halves .told) (λ f. rw (put-in l f)) (λ f. rw (put-in u f) (or-true (isLeft low′ i j)))))
+        (λ d. or-elim (isLeft low i l′) _ (t .untried l′ on (sym (w .others l′ d) ∙ off)) (λ f. rw (put-grows l i l′ f)) (λ f. rw (put-grows u i l′ f) (or-true (isLeft low′ i l′))));
+    among = λ l′ on. t .among l′ (was-in w l′ on);
+    others = λ k l′ d. rw (l .each k l′, u .each k l′, ne-eqb k i d) (t .others k l′ d);
+  },
+  record { low-half = half-more (h .low-half) (halves .low-told) l lw; high-half = half-more (h .high-half) (halves .high-told) u hw },
+)
 
 -- the lowest that passes is the first, and where none is left there is none
 module _ {lefts low₀ low high₀ high : List ℕ} {i asks : ℕ} (t : Trials lefts low₀ low high₀ high i asks) where
-  pub first-free : {slacks : List ℕ} (j : ℕ) → LowestIn asks j → j < 32 → Passes slacks lefts i j → FirstCall slacks lefts i j low₀ low high₀ high
-  first-free j low-is hj p = record {
-    marked-before = λ l lt on. t .untried l on (low-is .none-below l (lt hj));
-    passes = λ _. p;
-    others = t .others;
-  }
+  pub first-free : (j : ℕ) → LowestIn asks j → AskedBelow lefts i j low₀ low high₀ high
+  first-free j low-is = record { own = λ l lt on. t .untried l on (low-is .none-below l lt); others = t .others }
 
-  pub first-none : {slacks : List ℕ} → asks ≡ 0 → FirstCall slacks lefts i 32 low₀ low high₀ high
-  first-none e = record {
-    marked-before = λ l lt on. t .untried l on (rw (e, bit-none l));
-    passes = λ lt. absurd (omega arith);
-    others = t .others;
-  }
+  pub first-none : asks ≡ 0 → AskedBelow lefts i 32 low₀ low high₀ high
+  first-none e = record { own = λ l lt on. t .untried l on (rw (e, bit-none l)); others = t .others }
 
 -- ---- the lots that are still to be asked
-module _ {ranked : Bool} {slacks lefts nears fars waits low high : List ℕ} (h : Marks ranked slacks lefts nears fars waits low high) {lots : ℕ}
+module _ {ranked : Bool} {slacks lefts nears fars lows highs low high : List ℕ} (h : Marks ranked slacks lefts nears fars lows highs low high) {lots : ℕ}
     (s : Asked lefts low high lots) where
   none-there : (i j : ℕ) → bit lots i ≡ false → Passes slacks lefts i j → ⊥
   none-there i j off p = marked-not h i j (s .each i j (p .on) off) p
@@ -142,21 +123,21 @@ module _ {ranked : Bool} {slacks lefts nears fars waits low high : List ℕ} (h 
   pub none-first : lots ≡ 0 → (i j : ℕ) → Passes slacks lefts i j → ⊥
   none-first e i j = none-there i j (rw (e, bit-none i))
 
-  pub pair-first : {low₀ high₀ : List ℕ} {i j : ℕ} → LowestIn lots i → i < 32 → j < 32
-      → FirstCall slacks lefts i j low₀ low high₀ high → FirstPair slacks lefts i j
-  pair-first {i = i} low-is hi hj f = record {
+  pub pair-first : {low₀ high₀ : List ℕ} {i j : ℕ} → LowestIn lots i → i < 32
+      → AskedBelow lefts i j low₀ low high₀ high × Passes slacks lefts i j × (j < 32) → FirstPair slacks lefts i j
+  pair-first {i = i} low-is hi (f, passes, hj) = record {
     lot-in = hi;
     call-in = hj;
-    passes = f .passes hj;
+    passes = passes;
     no-lower-lot = λ a l lt. none-there a l (low-is .none-below a lt);
-    no-lower-call = λ l lt p. marked-not h i l (f .marked-before l (λ _. lt) (p .on)) p;
+    no-lower-call = λ l lt p. marked-not h i l (f .own l lt (p .on)) p;
   }
 
--- a lot is asked: its own marks alone change, and it need not be asked again where it has none to take
-pub asked-next : {slacks lefts low low′ high high′ : List ℕ} {i j lots after : ℕ} → Asked lefts low high lots → FirstCall slacks lefts i j low low′ high high′
-    → ((a : ℕ) → (a ≡ i → ⊥) → bit after a ≡ bit lots a) → (bit after i ≡ false → j < 32 → ⊥) → Asked lefts low′ high′ after
-asked-next {i = i} s f same none = record {
+-- a lot is asked: its own marks alone change, and it need not be asked again where all its pairs that are left are marked
+pub asked-next : {lefts low low′ high high′ : List ℕ} {i end lots after : ℕ} → Asked lefts low high lots → AskedBelow lefts i end low low′ high high′
+    → ((a : ℕ) → (a ≡ i → ⊥) → bit after a ≡ bit lots a) → (bit after i ≡ false → (l : ℕ) → isLeft lefts i l ≡ true → l < end) → Asked lefts low′ high′ after
+asked-next {i = i} s f same all = record {
   each = λ a l left off. by-cases (ℕ-discrete a i)
-      (λ e. rw e (f .marked-before l (λ lt. absurd (none (rw e at off) lt)) (rw e at left)))
+      (λ e. rw e (f .own l (all (rw e at off) l (rw e at left)) (rw e at left)))
       (λ d. f .others a l d ∙ s .each a l left (sym (same a d) ∙ off));
 }

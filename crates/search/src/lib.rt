@@ -18,15 +18,17 @@ use trial::raise;
 use words::below;
 use words::either;
 ghost use mathlib.Core.Path.{_≡_};
+ghost use mathlib.Core.Bool.{true};
 ghost use Prim.Native.Nat.{_≤_};
 ghost use lib.ListN.{length};
 ghost use Rattle.transport.specs.Finder.{size, find};
 ghost use Rattle.slacks.specs.Slacks.{bySlacks};
 ghost use Rattle.slacks.specs.Found.{Finds};
+ghost use Rattle.ranks.specs.Numbered.{Filled};
 ghost use Rattle.trial.specs.Left.{Table};
 
 // An order of the eligible pairs: the count of its pairs, with two bytes a pair, lot and call, at the start of the array; or nothing where
-// there is none. With `ranked` the slacks are Monge by the ranks.
+// there is none. With `ranked` the slacks are Monge by the ranks, and `raised` holds the costs, gaps filled.
 pub fn find_pairs(
     slacks: &[u32; PAIRS],
     n: usize,
@@ -36,9 +38,11 @@ pub fn find_pairs(
     names: &[u8; LINES],
     ranks: &[u8; LINES],
     eligible: [u32; SIDE],
+    raised: &mut [u32; PAIRS],
     pairs: &mut [u8],
 ) -> Search
     requires { ⌜ Table ranked (now slacks) n m (now names) (now ranks) eligible ⌝ }
+    requires { ⌜ (length (now raised) ≡ 1024) × (ranked ≡ true → Filled (now slacks) (now raised)) ⌝ }
     requires { ⌜ (total ≡ size (bySlacks (now slacks) n m)) × (2048 ≤ length (now pairs)) ⌝ }
     ensures { λ r. ⌜ Finds (find (bySlacks (now (slacks .entry)) n m)) r (now (pairs .exit)) ⌝ }
 {
@@ -46,16 +50,28 @@ pub fn find_pairs(
     let mut lines: [u32; LINES] = [0; LINES];
     let mut nears: [u8; LINES] = [0; LINES];
     let mut fars: [u8; LINES] = [0; LINES];
-    first_lines(names, ranks, &eligible, &mut lines, &mut nears, &mut fars);
-    // By lot, a row of `SIDE` calls: the raised slacks of the pairs left, and below which rank all lots let a pair pass.
-    let mut raised: [u32; PAIRS] = [0; PAIRS];
-    raise(slacks, ranked, &mut raised);
+    first_lines(
+        ranked,
+        names,
+        ranks,
+        &eligible,
+        n,
+        m,
+        &mut lines,
+        &mut nears,
+        &mut fars,
+    );
+    raise(slacks, ranked, raised);
+    // By lot, a row of `SIDE` calls: below which rank all lots let a pair pass.
     let mut passed: [u8; PAIRS] = [0; PAIRS];
+    // By lot, in the same way: 1 for a pair that is taken.
+    let mut taken: [u8; PAIRS] = [0; PAIRS];
     // By lot: the calls left to it.
     let mut lefts = eligible;
-    // By lot: the calls whose pairs are marked, in the low half and in the high half. By call: the lots that wait at it, all whose pairs with it
-    // are marked and maybe others.
-    let mut waits: [u32; SIDE] = [0; SIDE];
+    // For either half, low and high. By lot: the calls whose pairs are marked. By call: the lots that wait at it, all whose pairs with it are marked
+    // and maybe others.
+    let mut lows: [u32; SIDE] = [0; SIDE];
+    let mut highs: [u32; SIDE] = [0; SIDE];
     let mut low: [u32; SIDE] = [0; SIDE];
     let mut high: [u32; SIDE] = [0; SIDE];
     // The lots to be asked.
@@ -72,10 +88,11 @@ pub fn find_pairs(
             &lines,
             &nears,
             &fars,
-            &raised,
+            raised,
             some,
             &mut passed,
-            &mut waits,
+            &mut lows,
+            &mut highs,
             &mut low,
             &mut high,
         );
@@ -94,8 +111,10 @@ pub fn find_pairs(
             &mut lines,
             &mut nears,
             &mut fars,
-            &mut raised,
-            &mut waits,
+            raised,
+            &mut taken,
+            &mut lows,
+            &mut highs,
             &mut low,
             &mut high,
         );

@@ -3,7 +3,7 @@
 // kept their contents.
 use specification::Found;
 ghost use mathlib.Core.Path.{_≡_};
-ghost use Prim.Native.Nat.{_<_, _≤_};
+ghost use Prim.Native.Nat.{_+_, _<_, _≤_};
 ghost use lib.ListN.{length};
 
 // A number after a space.
@@ -102,12 +102,11 @@ fn cost(lot: usize, call: usize) -> u8 {
     }
 }
 
-// The row of a lot with all calls eligible.
-fn fill_row(book: &mut [u8; 4231], lot: usize)
-    requires { ⌜ (lot < 32) × (length (now book) ≡ 4231) ⌝ }
+// The row of a lot with all calls eligible, from a byte on.
+fn fill_row(book: &mut [u8; 4231], at: usize, lot: usize)
+    requires { ⌜ (at + 132 ≤ 4231) × (length (now book) ≡ 4231) ⌝ }
     ensures { λ _. ⌜ length (now (book .exit)) ≡ 4231 ⌝ }
 {
-    let at = 7 + 132 * lot;
     for k in 0..4 {
         book[at + k] = 255;
     }
@@ -117,23 +116,24 @@ fn fill_row(book: &mut [u8; 4231], lot: usize)
 }
 
 // 32 by 32: the pairs of lots 0 to 16 are not free, by the very last test of each, until lots 17 to 30 are used up. A finder that starts
-// again from the first pair at each turn makes 184 million tests.
-fn long_search() -> [u8; 4231]
+// again from the first pair at each turn makes 184 million tests. The first lots, so many, have no pairs.
+fn long_search(first: usize) -> [u8; 4231]
+    requires { ⌜ first ≤ 32 ⌝ }
     ensures { λ r. ⌜ 4231 ≡ length r ⌝ }
 {
     let mut book = [0u8; 4231];
     files::write_opening(&mut book, &files::BOOK_MARK, 32 + 256 * 32);
-    for lot in 0..32 {
-        fill_row(&mut book, lot);
+    for lot in first..32 {
+        fill_row(&mut book, 7 + 4 * first + 132 * (lot - first), lot);
     }
     book
 }
 
-// The same without its last pair, (31, 31), in the first 4,227 bytes: not all pairs are eligible, so that its lots are asked, and no corners decide.
+// The same without its last pair, (31, 31), in the first 4,227 bytes: corners decide here too.
 fn long_search_with_gap() -> [u8; 4231]
     ensures { λ r. ⌜ 4231 ≡ length r ⌝ }
 {
-    let mut book = long_search();
+    let mut book = long_search(0);
     // The highest byte of the last lot's word.
     book[7 + 132 * 31 + 3] = 127;
     book
@@ -231,14 +231,20 @@ fn show_signed() {
 // A search that is long for a plain scan, by corners.
 fn show_long() {
     let mut order = [170u8; 2060];
-    show(b"P57", &long_search(), &mut order);
+    show(b"P57", &long_search(0), &mut order);
 }
 
-// The same where lots are asked.
 fn show_long_with_gap() {
     let mut order = [170u8; 2060];
     let book = long_search_with_gap();
     show(b"P57", &book[..4227], &mut order);
+}
+
+// Where more pairs are missing than ranks are tried with, so that lots are asked: the first two lots have none.
+fn show_long_by_lots() {
+    let mut order = [170u8; 2060];
+    let book = long_search(2);
+    show(b"P57", &book[..3975], &mut order);
 }
 
 fn main() {
@@ -251,4 +257,5 @@ fn main() {
     show_zero_counts();
     show_long();
     show_long_with_gap();
+    show_long_by_lots();
 }

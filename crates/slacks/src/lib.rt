@@ -29,12 +29,12 @@ pub enum Search {
     Nothing,
 }
 
-// What a table of `SIDE` rows holds in a row at a column.
-pub fn entry_at(table: &[u32; PAIRS], row: usize, column: usize) -> u32
-    requires { ⌜ (row < 32) × (column < 32) ⌝ }
-    ensures { λ r. ⌜ r ≡ entry (now (table .entry)) row column ⌝ }
+// What a table of `SIDE` rows holds for a lot and a call.
+pub fn entry_at(table: &[u32; PAIRS], lot: Lot, call: Call) -> u32
+    requires { ⌜ (lot .0 < 32) × (call .0 < 32) ⌝ }
+    ensures { λ r. ⌜ r ≡ entry (now (table .entry)) (lot .0) (call .0) ⌝ }
 {
-    table[SIDE * row + column]
+    table[SIDE * lot.0 + call.0]
 }
 
 // The pair becomes the next of the pairs, two bytes each.

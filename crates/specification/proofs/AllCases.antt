@@ -53,7 +53,9 @@ byRows = pair 0 0 ∷ pair 0 1 ∷ pair 1 0 ∷ pair 1 1 ∷ []
 pub record BookCases : Type 0 where
   -- 1 before 2, 2 before 3, 3 before 4: the version is both bytes
   pub under-seven : readBook (88 ∷ []) ≡ refuses 1 []
-  pub mark-differs : readBook (amountsMark ++ (2 ∷ 0 ∷ 1 ∷ 1 ∷ [])) ≡ refuses 2 []
+  pub mark-differs : readBook (amountsMark ++ (3 ∷ 0 ∷ 1 ∷ 1 ∷ [])) ≡ refuses 2 []
+  pub other-first : readBook (88 ∷ 76 ∷ 66 ∷ 1 ∷ 0 ∷ 0 ∷ 0 ∷ []) ≡ refuses 2 []
+  pub other-second : readBook (67 ∷ 88 ∷ 66 ∷ 1 ∷ 0 ∷ 0 ∷ 0 ∷ []) ≡ refuses 2 []
   pub version-not-one : readBook (bookMark ++ (1 ∷ 1 ∷ 33 ∷ 1 ∷ [])) ≡ refuses 3 []
   -- 4 before 6 (F14: m is 33)
   pub lots-above-32 : readBook (book 33 1 []) ≡ refuses 4 []
@@ -61,8 +63,8 @@ pub record BookCases : Type 0 where
   -- 6 for the word, then 5 (F14: bit 2 with m 2), then 6 for the costs, then 7; lot by lot
   pub word-cut : readBook (book 1 2 [] ++ (4 ∷ 0 ∷ 0 ∷ [])) ≡ refuses 6 []
   pub bit-outside : readBook (book 1 2 (4 ∷ [])) ≡ refuses 5 (0 ∷ [])
-  pub bit-outside-later : readBook (book 2 2 (0 ∷ 7 ∷ [])) ≡ refuses 5 (1 ∷ [])
-  pub costs-cut : readBook (book 1 2 (3 ∷ []) ++ highCost) ≡ refuses 6 []
+  pub bit-outside-later : readBook (book 2 2 (0 ∷ 11 ∷ [])) ≡ refuses 5 (1 ∷ [])
+  pub costs-cut : readBook (book 1 2 (3 ∷ []) ++ (highCost ++ (0 ∷ 0 ∷ 0 ∷ []))) ≡ refuses 6 []
   pub cost-too-high : readBook (single highCost) ≡ refuses 7 (0 ∷ 0 ∷ [])
   pub cost-before-next-lot : readBook (book 2 1 (1 ∷ []) ++ highCost) ≡ refuses 7 (0 ∷ 0 ∷ [])
   pub cost-of-call-3 : readBook (book 1 4 (10 ∷ 0 ∷ []) ++ highCost) ≡ refuses 7 (0 ∷ 3 ∷ [])
@@ -78,6 +80,8 @@ unfolding u16At u32At readOpening readCosts readRow readRows readBook rowAt lotC
 book-cases = record {
   under-seven = refl;
   mark-differs = refl;
+  other-first = refl;
+  other-second = refl;
   version-not-one = refl;
   lots-above-32 = refl;
   calls-above-32 = refl;
@@ -105,6 +109,11 @@ pub record OtherCases : Type 0 where
   pub not-eligible : checkOrder bookGap (orderFile (pair 1 1 ∷ [])) ≡ refuses 9 (0 ∷ [])
   pub met-before : checkOrder book1235 (orderFile (pair 0 0 ∷ pair 0 1 ∷ pair 0 0 ∷ pair 9 9 ∷ [])) ≡ refuses 10 (2 ∷ [])
   pub missing : checkOrder book1235 (orderFile (pair 0 0 ∷ pair 0 1 ∷ pair 1 0 ∷ [])) ≡ refuses 14 []
+  -- each letter of their marks: XLO, CXO, XLA, CXA
+  pub order-first : checkOrder book1235 (88 ∷ 76 ∷ 79 ∷ 1 ∷ 0 ∷ 0 ∷ 0 ∷ []) ≡ refuses 2 []
+  pub order-second : checkOrder book1235 (67 ∷ 88 ∷ 79 ∷ 1 ∷ 0 ∷ 0 ∷ 0 ∷ []) ≡ refuses 2 []
+  pub amounts-first : readAmounts book1235 (88 ∷ 76 ∷ 65 ∷ 1 ∷ 0 ∷ 2 ∷ 2 ∷ []) ≡ refuses 2 []
+  pub amounts-second : readAmounts book1235 (67 ∷ 88 ∷ 65 ∷ 1 ∷ 0 ∷ 2 ∷ 2 ∷ []) ≡ refuses 2 []
   -- amounts: 15 before 6; 8 before 16 (F13)
   pub counts-differ : readAmounts book1235 (amounts 7 7 []) ≡ refuses 15 []
   pub amounts-end-early : readAmounts book1235 (amounts 2 2 (5 ∷ 4 ∷ 3 ∷ [])) ≡ refuses 6 []
@@ -175,6 +184,10 @@ other-cases =
       not-eligible = refl;
       met-before = refl;
       missing = refl;
+      order-first = refl;
+      order-second = refl;
+      amounts-first = refl;
+      amounts-second = refl;
       counts-differ = refl;
       amounts-end-early = refl;
       amounts-bytes-after = refl;

@@ -46,7 +46,7 @@ pub record PanelCases : Type 0 where
   pub nine-lots : findAndRunPanel (book 9 1 []) [] [] ≡ refuses 20 []
   pub nine-calls : findAndRunPanel (book 1 9 []) [] [] ≡ refuses 20 []
   pub most-lots : findAndRunPanel (book 32 0 []) [] [] ≡ refuses 20 []
-  pub many-lots : findAndRunPanel (book 33 9 []) [] [] ≡ refuses 4 []
+  pub many-lots : findAndRunPanel (book 255 9 []) [] [] ≡ refuses 4 []
   pub many-calls : findAndRunPanel (book 9 33 []) [] [] ≡ refuses 4 []
   pub third-version : findAndRunPanel (bookMark ++ (3 ∷ 0 ∷ 9 ∷ 9 ∷ [])) [] [] ≡ refuses 3 []
   pub before-5 : findAndRunPanel (book 9 1 (2 ∷ [])) [] [] ≡ refuses 20 []

@@ -36,7 +36,7 @@ minus n = (256 - n) ∷ 255 ∷ 255 ∷ 255 ∷ []
 abbrev pub singleSigned : List ℕ → List ℕ
 singleSigned cost = signedBook 1 1 (words (1 ∷ []) ++ cost)
 
-abbrev lowestCost : List ℕ
+abbrev pub lowestCost : List ℕ
 lowestCost = 192 ∷ 189 ∷ 240 ∷ 255 ∷ []
 
 abbrev pub lowCost : List ℕ
@@ -74,7 +74,7 @@ pub record RebateCases : Type 0 where
   pub unsigned-far : readBook (single lowest32) ≡ refuses 7 (0 ∷ 0 ∷ [])
   pub unsigned-minus-one : readBook (single (minus 1)) ≡ refuses 7 (0 ∷ 0 ∷ [])
   pub unsigned-highest : pairCost (single highestCost) 0 0 ≡ gives (costs (pos 1000000))
-  -- 3 means another version than 1 or 2, and of an order or amounts another than 1; the order that is found is of version 1
+  -- 3 means another version than 1 or 2, and of an order another than 1; the order that is found is of version 1
   pub version-0 : readBook (bookMark ++ (0 ∷ 0 ∷ 1 ∷ 1 ∷ words (0 ∷ []))) ≡ refuses 3 []
   pub version-3 : readBook (bookMark ++ (3 ∷ 0 ∷ 1 ∷ 1 ∷ words (0 ∷ []))) ≡ refuses 3 []
   pub version-258 : readBook (bookMark ++ (2 ∷ 1 ∷ 1 ∷ 1 ∷ words (0 ∷ []))) ≡ refuses 3 []

@@ -1,7 +1,7 @@
 -- What reading amounts with their book says: a readable book, n and m as the book has them, one amount for each lot and call, all within
 -- the limit, and no reserve above what its lot holds; and amounts with all this are read. A refusal says what its line of the table says,
 -- those before it not applying.
-use mathlib.Core.Path.{_≡_, refl, _∙_, ap}
+use mathlib.Core.Path.{_≡_, refl, ap}
 use mathlib.Core.Bool.{Bool, not, _&&_}
 use mathlib.Core.List.{List, []}
 use Prim.Native.Nat.{ℕ, _+_, _≤_, _<_}
@@ -12,7 +12,7 @@ use Rattle.transport.specs.Problem.{Within}
 use Rattle.transport.specs.Finder.{every}
 use Rattle.transport.proofs.Laws.Tests.{and-says, and-of, counted-le}
 use Rattle.transport.proofs.Laws.Searches.{every-says, every-fails}
-use Rattle.specification.specs.Reply.{gives, refuses, Size}
+use Rattle.specification.specs.Reply.{gives, Size}
 use Rattle.specification.specs.Bytes.{byteAt, amountsMark}
 use Rattle.specification.specs.Book.{bookLots, bookCalls, readBook, problemOf}
 use Rattle.specification.specs.Amounts.{amountLimit, largestAmounts, amountAt, carriesReserves, amountsLength, reserveAt}
@@ -21,8 +21,6 @@ use Rattle.specification.proofs.Replies.{
   Says,
   giving,
   said-of-given,
-  said-of-refused,
-  gives-if-never-refused,
   gives-less,
   refuses-less,
   says-then,
@@ -59,12 +57,12 @@ pub data AmountsRefused (size : Size) (s : List ℕ) : ℕ → List ℕ → Type
       → (i : ℕ) → i < size .lots → amountAt s i < reserveAt s i → AmountsRefused size s 21 []
 
 -- whether each of the first n numbers of f is at most that of g: where not, one is above
-one-above : (n : ℕ) (f g : ℕ → ℕ) → T (not (every n (λ k. leb (f k) (g k)))) → (k : ℕ) × (k < n) × (g k < f k)
+pub one-above : (n : ℕ) (f g : ℕ → ℕ) → T (not (every n (λ k. leb (f k) (g k)))) → (k : ℕ) × (k < n) × (g k < f k)
 one-above n f g t =
     let (k, h, above) = every-fails n _ (T-not (every n (λ k. leb (f k) (g k))) t) in
     (k, h, nleb→lt (f k) (g k) (not-T (leb (f k) (g k)) above))
 
-none-above : (n : ℕ) (f g : ℕ → ℕ) → T (not (not (every n (λ k. leb (f k) (g k))))) → (k : ℕ) → k < n → f k ≤ g k
+pub none-above : (n : ℕ) (f g : ℕ → ℕ) → T (not (not (every n (λ k. leb (f k) (g k))))) → (k : ℕ) → k < n → f k ≤ g k
 none-above n f g t k h = leb→le (f k) (g k) (every-says n _ (test-of-twice-not (every n (λ k. leb (f k) (g k))) t) k h)
 
 pub amounts-of-say : (size : Size) (s : List ℕ) → Says (λ n. (n ≡ size) × AmountsRead size s) (AmountsRefused size s) (readAmountsOf size s)
@@ -131,16 +129,6 @@ amounts-read book s n e = said-of-given (amounts-say book s) n e
 -- their book is read, with the same counts
 pub book-of-amounts : (book s : List ℕ) (n : Size) → readAmounts book s ≡ gives n → readBook book ≡ gives n
 book-of-amounts book s n e = book-reads book n (amounts-read book s n e .0)
-
--- refused amounts: what the number says
-pub amounts-refused : (book s : List ℕ) (k : ℕ) (vs : List ℕ) → readAmounts book s ≡ refuses k vs → AmountsOrBookRefused book s k vs
-amounts-refused book s k vs e = said-of-refused (amounts-say book s) k vs e
-
-pub amounts-reads : (book s : List ℕ) (n : Size) → BookRead book n → AmountsRead n s → readAmounts book s ≡ gives n
-unfolding readAmounts
-amounts-reads book s n read amounts =
-    let (m, (e, _), own) = gives-if-never-refused (amounts-of-say n s) (λ k vs. amounts-read-not-refused amounts) in
-    rw (book-reads book n read) (own ∙ ap gives e)
 
 module _ {book s : List ℕ} {n : Size} (read : BookRead book n) (amounts : AmountsRead n s) where
   same-sizes : (n .lots ≡ bookLots book) × (n .calls ≡ bookCalls book)

@@ -11,7 +11,7 @@ use native.Mathlib.Omega.{arith}
 use borrow.Author.Tests.{le-ltb}
 use lib.Dec.{T, ltb, ltb→lt, nltb→le}
 use lib.Count.{ones-le}
-use lib.ListN.{length, length-drop}
+use lib.ListN.{length, drop, length-drop}
 use Rattle.transport.specs.Problem.{Eligible}
 use Rattle.transport.specs.Greedy.{Pair}
 use Rattle.transport.specs.Order.{Monge, Good}
@@ -20,17 +20,16 @@ use Rattle.transport.specs.Signed.{Lifts, SignedMonge, SignedGood}
 use Rattle.transport.proofs.Laws.Tests.{and-says, or-says, below-suc}
 use Rattle.transport.proofs.Laws.Sets.{count-le}
 use Rattle.transport.proofs.Greedy.Signed.{signed-monge, signed-good}
-use Rattle.specification.specs.Reply.{gives, refuses, Size}
+use Rattle.specification.specs.Reply.{gives, Size}
 use Rattle.specification.specs.Bytes.{bookMark}
 use Rattle.specification.specs.Costs.{costLimit, costBase, costOutside, Allows}
 use Rattle.specification.specs.Book.{largestBook, bit, rowWord, rowSize, rowCost, bookVersion, bookLots, bookCalls, countOutside}
-use Rattle.specification.specs.Book.{readRows, readHead, readBook, rowAt, problemOf, costsOf}
+use Rattle.specification.specs.Book.{readRow, readRows, readHead, readBook, rowAt, problemOf, costsOf}
 use Rattle.specification.specs.Demands.{Readable, BookLimits}
 use Rattle.specification.proofs.Replies.{
   Says,
   giving,
   said-of-given,
-  said-of-refused,
   gives-if-never-refused,
   says-then,
   says-unless,
@@ -84,6 +83,15 @@ module _ (book : List ℕ) (headed : Headed book) where
       rows-say left (suc lot) (omega arith)
       (λ g h. ⊎-elim (λ (same : g ≡ lot). rw same row) (before g) (below-suc h)))
 
+-- rows that are read are passed one by one
+pub rows-past : (book : List ℕ) (version calls k left : ℕ) → k + left ≡ bookLots book
+    → ((g : ℕ) → g < k → readRow (rowAt book g) version g calls ≡ gives tt)
+    → readRows (drop 7 book) version 0 (bookLots book) calls ≡ readRows (rowAt book k) version k left calls
+unfolding readRows rowAt
+rows-past book version calls zero left e read = let all : bookLots book ≡ left = omega arith in rw all refl
+rows-past book version calls (suc k) left e read =
+    rows-past book version calls k (suc left) (omega arith) (λ g h. read g (omega arith)) ∙ rw (read k (omega arith)) refl
+
 -- the first seven bytes: 1 to 4
 pub head-says : (book : List ℕ) → Says (λ n. (n ≡ record { lots = bookLots book; calls = bookCalls book }) × Headed book) (BookRefused book) (readHead book)
 head-says book =
@@ -120,10 +128,6 @@ book-says book =
 
 pub book-read : (book : List ℕ) (n : Size) → readBook book ≡ gives n → BookRead book n
 book-read book n e = said-of-given (book-says book) n e
-
--- a refused book: what its number and values say
-pub book-refused : (book : List ℕ) (k : ℕ) (vs : List ℕ) → readBook book ≡ refuses k vs → BookRefused book k vs
-book-refused book k vs e = said-of-refused (book-says book) k vs e
 
 -- none of these applies to a book that says what a readable one says: it is read
 pub book-reads : (book : List ℕ) (n : Size) → BookRead book n → readBook book ≡ gives n

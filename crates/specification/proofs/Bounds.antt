@@ -2,16 +2,15 @@
 -- most 1,000,000, and no less than that below zero. So 64 bits hold units and a cost with its sign, and no number that is printed has more
 -- than 17 digits.
 use mathlib.Core.Path.{_≡_, sym, _∙_}
-use mathlib.Core.Logic.{⊎-elim, by-cases}
+use mathlib.Core.Logic.{by-cases}
 use mathlib.Core.Bool.{Bool, true, false, cond}
-use mathlib.Core.List.{List, []}
+use mathlib.Core.List.{List}
 use Prim.Native.Nat.{ℕ, suc, _*_, _≤_}
 use native.Mathlib.Nat.{mul-comm, zero-mul, add-mul, mul-le-mul-left, mul-le-mul, le-of-suc-le-suc}
 use native.Mathlib.Omega.{arith}
 use lib.Dec.{eqb, leb→le}
 use lib.IntN.{ℤ, pos, negsuc, negℤ}
 use lib.Signed.{mag, _≤ℤ_}
-use lib.ListN.{replicate, length-replicate}
 use Rattle.transport.specs.Problem.{Problem, Eligible, sum, lotSum, units, totalCost, Allocation, Within}
 use Rattle.transport.specs.Greedy.{State}
 use Rattle.transport.specs.Idle.{idleAmount}
@@ -23,7 +22,7 @@ use Rattle.transport.proofs.Laws.Integers.{mag-difference}
 use Rattle.transport.proofs.Greedy.Signed.{cost-signed}
 use Rattle.transport.proofs.Finder.Find.{find-is-order}
 use Rattle.transport.proofs.Theorems.Idle.{idle-is-allocation}
-use Rattle.specification.specs.Reply.{gives, refuses, Size, Outcome}
+use Rattle.specification.specs.Reply.{gives, Size, Outcome}
 use Rattle.specification.specs.Costs.{costLimit, costBase, Allows}
 use Rattle.specification.specs.Book.{bookVersion, problemOf, costsOf, costs, pairCost}
 use Rattle.specification.specs.Amounts.{amountLimit, lotAmount, callAmount, readAmounts}
@@ -31,14 +30,13 @@ use Rattle.specification.specs.OrderFile.{orderPairs, orderFile}
 use Rattle.specification.specs.Run.{greedyOn, outcome, runOrder}
 use Rattle.specification.specs.Find.{findAndRun}
 use Rattle.specification.specs.Idle.{enlarged, greedyIdleOn, findAndRunIdle}
-use Rattle.specification.proofs.Replies.{said-of-given, said-of-refused}
+use Rattle.specification.proofs.Replies.{said-of-given}
 use Rattle.specification.proofs.Costs.{base-within}
 use Rattle.specification.proofs.Books.{BookRead, problem-within, lifted-within, book-lifts}
 use Rattle.specification.proofs.AmountsFiles.{AmountsRead, amounts-read, amounts-within}
-use Rattle.specification.proofs.Lines.{amounts-in-table}
 use Rattle.specification.proofs.PairCosts.{pair-cost-says}
 use Rattle.specification.proofs.Runs.{run-says}
-use Rattle.specification.proofs.FindRuns.{FindRunRefused, of-amounts, flow-too-short, find-and-run-says, find-and-run-is-run}
+use Rattle.specification.proofs.FindRuns.{find-and-run-says, find-and-run-is-run}
 use Rattle.specification.proofs.IdleRuns.{idle-says}
 
 module _ (P : Problem) (lots : P .lots ≤ 32) (top : ℕ) (costs : (i j : ℕ) → Eligible P i j → P .cost i j ≤ top)
@@ -133,14 +131,6 @@ pub pair-cost-within : (book : List ℕ) (lot call : ℕ) (cost : ℤ) → pairC
 pair-cost-within book lot call cost e =
     allows-small (bookVersion book) cost (said-of-given (pair-cost-says book lot call) (costs cost) e)
 
--- 1,024 flow entries are enough for every book: the printing program never meets 17
-cells-within : {book : List ℕ} {n : Size} → BookRead book n → problemOf book .lots * problemOf book .calls ≤ 1024
+-- 1,024 flow entries are enough for every book
+pub cells-within : {book : List ℕ} {n : Size} → BookRead book n → problemOf book .lots * problemOf book .calls ≤ 1024
 cells-within read = mul-le-mul (problem-within read .0) (problem-within read .1)
-
-pub printing-not-17 : (book amounts : List ℕ) → findAndRun book amounts (replicate 1024 0) ≡ refuses 17 [] → ⊥
-printing-not-17 book amounts e = by-cause (said-of-refused (find-and-run-says book amounts (replicate 1024 0)) 17 [] e)
-  where
-    by-cause : FindRunRefused book amounts (replicate 1024 0) 17 [] → ⊥
-    by-cause (of-amounts q refused) = ⊎-elim (λ low. omega arith) (λ (is-21 : 17 ≡ 21). omega arith) (amounts-in-table q .1)
-    by-cause (flow-too-short {n} reads h) =
-        omega (arith, cells-within (amounts-read book amounts n reads .0), length-replicate {A = ℕ} 1024 0)

@@ -1,9 +1,8 @@
 -- What checking an order says. It passes exactly the order files of a readable book that have the right opening and length, hold each
--- eligible pair once, and are Monge sequences. Each refusal is by a number up to 8 for the two files, or one of 9 to 12 and 14, and
--- what those mean is stated one by one.
+-- eligible pair once, and are Monge sequences. Each refusal is by a number up to 8 for the two files, or one of 9 to 12 and 14.
 use mathlib.Core.Path.{_≡_, refl, _∙_, ap}
 use mathlib.Core.Bool.{not}
-use mathlib.Core.List.{List, [], _∷_}
+use mathlib.Core.List.{List, []}
 use Prim.Native.Nat.{ℕ, _+_, _*_, _<_}
 use native.Mathlib.Omega.{arith}
 use lib.Dec.{ltb, ltb→lt, nltb→le}
@@ -22,10 +21,8 @@ use Rattle.specification.specs.Demands.{Passing}
 use Rattle.specification.proofs.Replies.{
   Says,
   giving,
-  UpTo,
   not-both,
   said-of-given,
-  said-of-refused,
   gives-if-never-refused,
   says-known,
   says-then,
@@ -34,13 +31,8 @@ use Rattle.specification.proofs.Replies.{
 }
 use Rattle.specification.proofs.Rows.{OpeningRefused, opening-says}
 use Rattle.specification.proofs.Books.{BookRefused, book-says, book-monge, admitted-inside}
-use Rattle.specification.proofs.Lines.{opening-in-table, book-in-table}
 use Rattle.specification.proofs.Holding.{
-  NotEligibleAt,
-  MetBeforeAt,
   HoldingRefused,
-  not-eligible,
-  met-before,
   lists-never-refused,
   holding-says,
   Missing,
@@ -50,11 +42,7 @@ use Rattle.specification.proofs.Holding.{
   order-misses-nothing,
 }
 use Rattle.specification.proofs.Crossing.{
-  CrossNotEligible,
-  CrossSumTooHigh,
   CrossRefused,
-  cross-not-eligible,
-  cross-sum-too-high,
   hold-never-crossed,
   crossing-says,
   monge-exactly,
@@ -120,71 +108,3 @@ module _ (book order : List ℕ) where
 
   pub check-passes-only : (n : ℕ) → checkOrder book order ≡ gives n → Passing book order
   check-passes-only n e = said-of-given check-says n e .1
-
-  pub check-refused : (k : ℕ) (vs : List ℕ) → checkOrder book order ≡ refuses k vs → CheckRefused book order k vs
-  check-refused k vs e = said-of-refused check-says k vs e
-
--- each is a line of the table: for the book or the order's file with a number up to 8, else up to 14
-files-in-table : {book order : List ℕ} {k : ℕ} {vs : List ℕ} → FilesRefused book order k vs → UpTo 8 k vs
-files-in-table (of-book q e) = book-in-table q
-files-in-table (of-opening q e) = let (line, low) = opening-in-table q in (line, omega arith)
-files-in-table (ends-early h) = ((refusal.EndsEarly, refl, refl), omega arith)
-files-in-table (bytes-after h) = ((refusal.BytesAfter, refl, refl), omega arith)
-
-pub check-in-table : {book order : List ℕ} {k : ℕ} {vs : List ℕ} → CheckRefused book order k vs → UpTo 14 k vs
-check-in-table (of-files q) = let (line, low) = files-in-table q in (line, omega arith)
-check-in-table (of-holding (not-eligible {place} at)) = ((refusal.PairNotEligible place, refl, refl), omega arith)
-check-in-table (of-holding (met-before {place} at)) = ((refusal.PairMetBefore place, refl, refl), omega arith)
-check-in-table (of-missing lists missing) = ((refusal.PairMissing, refl, refl), omega arith)
-check-in-table (of-crossing each-once (cross-not-eligible {i} {j} {k} {l} at)) =
-    ((refusal.CrossNotEligible (record { 0 = i }) (record { 0 = j }) (record { 0 = k }) (record { 0 = l }), refl, refl), omega arith)
-check-in-table (of-crossing each-once (cross-sum-too-high {i} {j} {k} {l} at)) =
-    ((refusal.CrossSumTooHigh (record { 0 = i }) (record { 0 = j }) (record { 0 = k }) (record { 0 = l }), refl, refl), omega arith)
-
--- The refusals of the check's own, one by one.
-module _ (book order : List ℕ) where
-  -- the pair at this place is not eligible
-  pub refused-9 : (place : ℕ) → checkOrder book order ≡ refuses 9 (place ∷ []) → NotEligibleAt (problemOf book) (orderPairs order) place
-  refused-9 place e = of-it (check-refused book order 9 (place ∷ []) e)
-    where
-      of-it : CheckRefused book order 9 (place ∷ []) → NotEligibleAt (problemOf book) (orderPairs order) place
-      of-it (of-files q) = absurd (omega (arith, files-in-table q .1))
-      of-it (of-holding (not-eligible at)) = at
-
-  -- the pair at this place stood before
-  pub refused-10 : (place : ℕ) → checkOrder book order ≡ refuses 10 (place ∷ []) → MetBeforeAt (problemOf book) (orderPairs order) place
-  refused-10 place e = of-it (check-refused book order 10 (place ∷ []) e)
-    where
-      of-it : CheckRefused book order 10 (place ∷ []) → MetBeforeAt (problemOf book) (orderPairs order) place
-      of-it (of-files q) = absurd (omega (arith, files-in-table q .1))
-      of-it (of-holding (met-before at)) = at
-
-  -- of the eligible pairs, of which none stands twice, one is missing
-  pub refused-14 : checkOrder book order ≡ refuses 14 []
-      → Lists (problemOf book) (orderPairs order) × Missing (problemOf book) (orderPairs order)
-  refused-14 e = of-it (check-refused book order 14 [] e)
-    where
-      of-it : CheckRefused book order 14 [] → Lists (problemOf book) (orderPairs order) × Missing (problemOf book) (orderPairs order)
-      of-it (of-files q) = absurd (omega (arith, files-in-table q .1))
-      of-it (of-missing lists missing) = (lists, missing)
-
-  module _ (i j k l : ℕ) where
-    -- of an order of the eligible pairs, the first quadruple that fails has (k, l) not eligible
-    pub refused-11 : checkOrder book order ≡ refuses 11 (i ∷ j ∷ k ∷ l ∷ [])
-        → OrderOf (problemOf book) (orderPairs order) × CrossNotEligible (problemOf book) (orderPairs order) i j k l
-    refused-11 e = of-it (check-refused book order 11 (i ∷ j ∷ k ∷ l ∷ []) e)
-      where
-        of-it : CheckRefused book order 11 (i ∷ j ∷ k ∷ l ∷ [])
-            → OrderOf (problemOf book) (orderPairs order) × CrossNotEligible (problemOf book) (orderPairs order) i j k l
-        of-it (of-files q) = absurd (omega (arith, files-in-table q .1))
-        of-it (of-crossing each-once (cross-not-eligible at)) = (each-once, at)
-
-    -- it has (k, l) eligible, and the cost sum is too high
-    pub refused-12 : checkOrder book order ≡ refuses 12 (i ∷ j ∷ k ∷ l ∷ [])
-        → OrderOf (problemOf book) (orderPairs order) × CrossSumTooHigh (problemOf book) (orderPairs order) i j k l
-    refused-12 e = of-it (check-refused book order 12 (i ∷ j ∷ k ∷ l ∷ []) e)
-      where
-        of-it : CheckRefused book order 12 (i ∷ j ∷ k ∷ l ∷ [])
-            → OrderOf (problemOf book) (orderPairs order) × CrossSumTooHigh (problemOf book) (orderPairs order) i j k l
-        of-it (of-files q) = absurd (omega (arith, files-in-table q .1))
-        of-it (of-crossing each-once (cross-sum-too-high at)) = (each-once, at)

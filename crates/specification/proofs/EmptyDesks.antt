@@ -2,10 +2,10 @@
 -- an order is always found: the enlarged book has no lots either, or the idle call alone.
 use mathlib.Core.Path.{_≡_, refl, sym, _∙_, ap}
 use mathlib.Core.Logic.{inl, inr, ⊎-elim, by-cases}
-use mathlib.Core.Bool.{false, cond}
+use mathlib.Core.Bool.{cond}
 use mathlib.Core.List.{List, [], _∷_, _++_, append-nil}
 use mathlib.Core.Option.{Option, some, none}
-use Prim.Native.Nat.{ℕ, zero, suc, _+_, _*_, _≤_, _<_}
+use Prim.Native.Nat.{ℕ, zero, suc, _*_, _≤_, _<_}
 use native.Mathlib.Decide.{decLt}
 use native.Mathlib.Omega.{arith}
 use borrow.Author.Tests.{lt-ltb, le-ltb}
@@ -15,36 +15,31 @@ use lib.ListN.{length, take, drop, replicate}
 use Rattle.transport.specs.Problem.{sum}
 use Rattle.transport.specs.Greedy.{Pair}
 use Rattle.transport.specs.Finder.{find}
-use Rattle.transport.proofs.Laws.Tests.{T-false}
 use Rattle.transport.proofs.Orders.OneCall.{one-call-order}
 use Rattle.transport.proofs.Greedy.Signed.{idle-lifts}
 use Rattle.transport.proofs.Finder.Find.{find-none}
-use Rattle.specification.specs.Reply.{gives, refuses, Size, Outcome, full, covered, short}
+use Rattle.specification.specs.Reply.{gives, Size, Outcome, full, covered, short}
 use Rattle.specification.specs.Book.{rowWord, bookLots, bookCalls, rowAt, problemOf, costsOf, lotCosts, outside, pairCost}
 use Rattle.specification.specs.Amounts.{readAmounts}
 use Rattle.specification.specs.OrderFile.{orderCount, pairs, orderPairs, orderFile}
-use Rattle.specification.specs.Check.{checkPairs, checkOrder}
+use Rattle.specification.specs.Check.{checkOrder}
 use Rattle.specification.specs.Run.{greedyOn, outcome, runOrder, runFlow}
-use Rattle.specification.specs.Find.{orderLength, foundOrder, findOrder, findBuffer, findAndRun, findAndRunFlow}
+use Rattle.specification.specs.Find.{orderLength, findOrder, findBuffer, findAndRun, findAndRunFlow}
 use Rattle.specification.specs.Idle.{enlarged, lotsTotal, callsTotal, findAndRunIdle, findAndRunIdleFlow}
 use Rattle.specification.specs.Text.{decimal, line, verdictWord, pairLines, textOf, bookMost, amountsMost, printed}
 use Rattle.specification.specs.Demands.{OrderShaped}
-use Rattle.specification.specs.Requests.{Allowed}
 use Rattle.specification.specs.EmptyDesk.{Empty, EmptyDesk, EmptyAmounts, nothingPlaced, Request5}
 use Rattle.specification.proofs.Replies.{not-both, said-of-given, gives-if-never-refused}
-use Rattle.specification.proofs.Books.{book-read, book-refused, book-lifts, admitted-inside}
-use Rattle.specification.proofs.EmptyBooks.{empty-reads, empty-6, empty-5, empty-8, four-says, four-of, differ-15}
+use Rattle.specification.proofs.Books.{book-read, book-lifts}
+use Rattle.specification.proofs.EmptyBooks.{empty-reads}
 use Rattle.specification.proofs.AmountsFiles.{amounts-read, book-of-amounts}
-use Rattle.specification.proofs.Reserves.{amounts-exactly}
-use Rattle.specification.proofs.NothingPlaced.{some-not-none, none-eligible, no-cells, no-size, no-pairs, found-none}
-use Rattle.specification.proofs.NothingPlaced.{nothing-placed, nothing-written}
+use Rattle.specification.proofs.NothingPlaced.{some-not-none, no-cells, no-size, no-pairs, found-none, nothing-placed, nothing-written}
 use Rattle.specification.proofs.Checks.{check-says, check-passes}
 use Rattle.specification.proofs.OrderFiles.{count-back, order-back, order-file-shaped}
-use Rattle.specification.proofs.Runs.{ran}
+use Rattle.specification.proofs.Runs.{length-runFlow, ran}
 use Rattle.specification.proofs.FindRuns.{find-and-run-is-run}
-use Rattle.specification.proofs.Finds.{FindRefused, of-book, buffer-too-short, no-order}
-use Rattle.specification.proofs.Finds.{found-is-good, find-says, found-passes, written}
-use Rattle.specification.proofs.IdleRuns.{request2}
+use Rattle.specification.proofs.Finds.{FindRefused, of-book, buffer-too-short, no-order, found-is-good, find-says, found-passes, written}
+use Rattle.specification.proofs.IdleRuns.{Allowed, length-findAndRunIdleFlow, idle-found, ran-idle}
 use Rattle.specification.proofs.Demands.{demand2}
 
 module _ (book : List ℕ) (n : Size) (desk : EmptyDesk book n) where
@@ -93,26 +88,6 @@ module _ (book : List ℕ) (n : Size) (desk : EmptyDesk book n) where
         monge = rw empty-count (rw (order-back []) at (found .monge));
       }))
 
-  -- any pair is refused at place 0
-  listed-9 : (order : List ℕ) → OrderShaped order → 0 < orderCount order → checkOrder book order ≡ refuses 9 (0 ∷ [])
-  unfolding checkOrder checkPairs pairs
-  listed-9 order shaped listed =
-      let count : ℕ = orderCount order in
-      rw (
-        desk .0,
-        shaped .opening,
-        le-ltb (length order) (7 + 2 * count) (omega (arith, shaped .whole)),
-        le-ltb (7 + 2 * count) (length order) (omega (arith, shaped .whole)),
-        at-first count listed,
-      ) refl
-    where
-      none-admitted : (i j : ℕ) → problemOf book .admits i j ≡ false
-      none-admitted i j = T-false (problemOf book .admits i j) (λ t. none-eligible (problemOf book) empty i j (admitted-inside book i j t))
-
-      at-first : (count : ℕ) → 0 < count → checkPairs (problemOf book) [] 0 (pairs count (drop 7 order)) ≡ refuses 9 (0 ∷ [])
-      at-first zero h = absurd (omega arith)
-      at-first (suc count) h = rw (none-admitted _ _) refl
-
   -- what the finder writes
   finds-none : (buffer : List ℕ) → 7 ≤ length buffer
       → (findOrder book buffer ≡ gives 7) × (findBuffer book buffer ≡ orderFile [] ++ drop 7 buffer)
@@ -127,10 +102,6 @@ module _ (book : List ℕ) (n : Size) (desk : EmptyDesk book n) where
       never (of-book q e) = not-both (desk .0) e
       never (buffer-too-short readable h) = omega (arith, no-size (problemOf book) empty)
       never (no-order readable enough e) = some-not-none (sym (found-none (problemOf book) empty) ∙ e)
-
-  refuses-17 : (buffer : List ℕ) → length buffer < 7 → findOrder book buffer ≡ refuses 17 []
-  unfolding findOrder foundOrder
-  refuses-17 buffer cut = rw (desk .0, lt-ltb (length buffer) (orderLength book) (omega (arith, no-size (problemOf book) empty))) refl
 
 -- the counts of a book whose amounts are read
 module _ (book amounts : List ℕ) (n : Size) (reads : readAmounts book amounts ≡ gives n) where
@@ -163,7 +134,7 @@ module _ (book amounts : List ℕ) (n : Size) (given : EmptyAmounts book amounts
       let accepted : runOrder book order amounts flow ≡ gives (outcome (problemOf book) (costsOf book) (greedyOn book (orderPairs order) amounts))
       = rw (passes, given .0, long) refl in
       let r = ran book order amounts flow _ accepted in
-      (accepted ∙ ap gives (nothing-placed (problemOf book) without-pairs r), nothing-written (problemOf book) without-pairs r)
+      (accepted ∙ ap gives (nothing-placed (problemOf book) without-pairs r), nothing-written (problemOf book) without-pairs r (length-runFlow book order amounts flow))
 
   finds-and-runs : (flow : List ℕ)
       → (findAndRun book amounts flow ≡ gives (nothingPlaced book amounts)) × (findAndRunFlow book amounts flow ≡ flow)
@@ -194,13 +165,13 @@ module _ (book amounts : List ℕ) (n : Size) (given : EmptyAmounts book amounts
         by-find : (found : Option (List Pair)) → find (enlarged book) ≡ found → (o : Outcome) × (findAndRunIdle book amounts flow ≡ gives o)
         by-find none e = absurd (enlarged-found e)
         by-find (some S) e =
-            request2 .finds book amounts flow allowed S (found-is-good (idle-lifts (book-lifts (book-read book n (desk .0)))) S e)
+            idle-found book amounts flow allowed S (found-is-good (idle-lifts (book-lifts (book-read book n (desk .0)))) S e)
 
     runs-idle : (findAndRunIdle book amounts flow ≡ gives (nothingPlaced book amounts)) × (findAndRunIdleFlow book amounts flow ≡ flow)
     runs-idle =
         let (o, e) = some-outcome in
-        let r = request2 .runs book amounts flow o e .ran .ran in
-        (e ∙ ap gives (nothing-placed (problemOf book) without-pairs r), nothing-written (problemOf book) without-pairs r)
+        let r = ran-idle book amounts flow o e .2 in
+        (e ∙ ap gives (nothing-placed (problemOf book) without-pairs r), nothing-written (problemOf book) without-pairs r (length-findAndRunIdleFlow book amounts flow))
 
 one-line : (bookFile amountsFile : List ℕ) (n : Size) → (let book = take bookMost bookFile in let amounts = take amountsMost amountsFile in
     EmptyAmounts book amounts n
@@ -215,19 +186,10 @@ one-line bookFile amountsFile n given =
 pub request5 : Request5
 request5 = record {
   reads = empty-reads;
-  refused-6 = empty-6;
-  refused-5 = empty-5;
-  refused-8 = empty-8;
-  only-4 = λ book vs e. four-says (book-refused book 4 vs e) refl;
-  refused-4 = four-of;
   lot-costs = no-costs;
   pair-cost = never-inside;
   passes = λ book order n desk k. (passing-none book n desk order k, λ (e, shaped, count). rw e (none-passes book n desk order shaped count));
-  listed = λ book order n desk. listed-9 book n desk order;
   finds = λ book buffer n desk. finds-none book n desk buffer;
-  finds-17 = λ book buffer n desk. refuses-17 book n desk buffer;
-  amounts = amounts-exactly;
-  amounts-15 = differ-15;
   run = λ book order amounts flow n k given. runs-none book amounts n given order flow k;
   find-and-run = λ book amounts flow n given. finds-and-runs book amounts n given flow;
   find-and-run-idle = λ book amounts flow n given. runs-idle book amounts n given flow;

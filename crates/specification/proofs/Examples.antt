@@ -7,7 +7,7 @@ use Prim.Native.Nat.{ℕ, _≤_}
 use native.Mathlib.Omega.{arith}
 use borrow.Author.Tests.{le-ltb}
 use lib.Count.{ones, onesIn}
-use lib.Dec.{lit<, lit≤}
+use lib.Dec.{lit≤}
 use lib.IntN.{pos, negsuc}
 use lib.Signed.{_≤ℤ_}
 use lib.ListN.{length, replicate}
@@ -15,7 +15,7 @@ use Rattle.transport.specs.Problem.{sum, Eligible, Meets, MeetsCalls}
 use Rattle.transport.specs.Greedy.{Pair}
 use Rattle.transport.specs.Signed.{signedCost}
 use Rattle.transport.specs.Finder.{every}
-use Rattle.specification.specs.Reply.{gives, full, covered, Outcome}
+use Rattle.specification.specs.Reply.{gives, full, Outcome}
 use Rattle.specification.specs.Bytes.{u16At, u32At, readOpening}
 use Rattle.specification.specs.Book.{readCosts, readRow, readRows, bookVersion, readBook, rowAt, problemOf, costsOf}
 use Rattle.specification.specs.Amounts.{lotAmount, callAmount, readAmountsOf, readAmounts}
@@ -24,19 +24,20 @@ use Rattle.specification.specs.Run.{runOrder}
 use Rattle.specification.specs.Find.{orderLength, findOrder}
 use Rattle.specification.specs.Demands.{Readable, Passing, GoodOrder, returned}
 use Rattle.specification.specs.Idle.{enlarged, enlargedCosts}
-use Rattle.specification.specs.Requests.{SomeMeetsCalls, Allowed, IdleRun, ThreeEligible, FirstOutside, Alike, AboveEight}
+use Rattle.specification.specs.Requests.{ThreeEligible, Alike}
+use Rattle.specification.specs.Entry.{byOrder, byFound, idle}
 use Rattle.specification.specs.EmptyDesk.{EmptyDesk, EmptyAmounts, EmptyOpening, NoBits}
 use Rattle.specification.specs.Examples.{book, amounts, book1235, amounts5436, bookGap, bookEmpty, bookDiagonal, known-examples}
 use Rattle.specification.proofs.AllCases.{bookCorners, bookSpare, amountsSpare, idle-cases, bookSteps}
-use Rattle.specification.proofs.AllRebates.{singleSigned, lowCost, bookRebates, bookRebate, amountsRebate, rebate-cases}
+use Rattle.specification.proofs.AllRebates.{bookRebates, bookRebate, amountsRebate, rebate-cases}
 use Rattle.specification.proofs.AllEmptyDesks.{noCalls, noLots, nothingYet, stock, empty-cases}
 use Rattle.specification.proofs.AllPanels.{eightByEight, ticket, panel-cases}
 use Rattle.specification.proofs.Replies.{not-both}
 use Rattle.specification.proofs.Books.{admitted-inside}
 use Rattle.specification.proofs.Verdicts.{short-not-full, short-not-covered}
-use Rattle.specification.proofs.IdleRuns.{request2}
 use Rattle.specification.proofs.Demands.{demand2, demand3}
 use Rattle.specification.proofs.EmptyDesks.{request5}
+use Rattle.specification.proofs.IdleRuns.{Allowed, idle-found, request2}
 use Rattle.specification.proofs.Panels.{request6}
 
 -- the buffers of the examples
@@ -78,28 +79,24 @@ pub record NotVacuous : Type 0 where
   pub none-meets-calls : (x : ℕ → ℕ → ℕ) → MeetsCalls (problemOf bookEmpty) (lotAmount amounts10) (callAmount bookEmpty amounts10) x → ⊥
   -- a readable book with no good order
   pub none-good : Readable bookDiagonal × ((S : List Pair) → GoodOrder (problemOf bookDiagonal) (costsOf bookDiagonal) S → ⊥)
-  -- with an idle call a run that is accepted, and an allocation that meets its calls
-  pub idle-run : IdleRun bookSpare amountsSpare (replicate 5 8) (record { verdict = covered; units = 5; cost = pos 9 })
-  pub idle-meets : SomeMeetsCalls bookSpare amountsSpare
+  -- an allocation that meets every call, where a run with an idle call is accepted (`idle-cases.spare`)
+  pub idle-meets : (x : ℕ → ℕ → ℕ) × MeetsCalls (problemOf bookSpare) (lotAmount amountsSpare) (callAmount bookSpare amountsSpare) x
   -- and a book with an order, whose enlarged book has none that is good, where no other refusal applies
   pub idle-none-good : Allowed bookCorners (amounts 3 2 (replicate 5 0)) (replicate 6 8)
       × ((S : List Pair) → GoodOrder (enlarged bookCorners) (enlargedCosts bookCorners) S → ⊥)
-  -- three eligible pairs of a readable book, for each answer of the test of a quadruple (`quadruple-cases`), and with k = i and l = j
+  -- three eligible pairs of a readable book, for each answer of the test of a quadruple (`quadruple-cases`)
   pub quadruple-holds : ThreeEligible bookSteps 0 1 1 3
   pub quadruple-too-high : ThreeEligible bookSteps 0 3 1 1
   pub quadruple-not-eligible : ThreeEligible bookGap 0 0 1 1
-  pub quadruple-own : ThreeEligible bookGap 0 0 0 0
   -- a readable book of each version, with an eligible pair
   pub version-1 : (bookVersion bookSteps ≡ 1) × Eligible (problemOf bookSteps) 0 1
   pub version-2 : Readable bookRebates × (bookVersion bookRebates ≡ 2) × Eligible (problemOf bookRebates) 0 1
-  -- a row with a cost outside the range
-  pub first-outside : FirstOutside (rowAt (singleSigned lowCost) 0) 2 1 0
   -- a least cost below zero: some allocation meets everything, and none that does costs less than -14
   pub least-below-zero : ((x : ℕ → ℕ → ℕ) × Meets (problemOf bookRebates) (lotAmount amounts5436) (callAmount bookRebates amounts5436) x)
       × ((x : ℕ → ℕ → ℕ) → Meets (problemOf bookRebates) (lotAmount amounts5436) (callAmount bookRebates amounts5436) x
       → negsuc 13 ≤ℤ signedCost (problemOf bookRebates) (costsOf bookRebates) x)
   -- and one with an idle call: some allocation meets every call, and none that does costs less than -6
-  pub idle-below-zero : SomeMeetsCalls bookRebate amountsRebate
+  pub idle-below-zero : ((x : ℕ → ℕ → ℕ) × MeetsCalls (problemOf bookRebate) (lotAmount amountsRebate) (callAmount bookRebate amountsRebate) x)
       × ((x : ℕ → ℕ → ℕ) → MeetsCalls (problemOf bookRebate) (lotAmount amountsRebate) (callAmount bookRebate amountsRebate) x
       → negsuc 5 ≤ℤ signedCost (problemOf bookRebate) (costsOf bookRebate) x)
   -- desks without lots and without calls, with amounts
@@ -107,14 +104,11 @@ pub record NotVacuous : Type 0 where
   pub no-calls-yet : EmptyDesk (noCalls 2) (record { lots = 2; calls = 0 })
   pub no-lots-asked : EmptyAmounts (noLots 1) (amounts 0 1 (1 ∷ [])) (record { lots = 0; calls = 1 })
   pub no-calls-stocked : EmptyAmounts (noCalls 2) stock (record { lots = 2; calls = 0 })
-  -- files that open so, of either version and as large as they may be; with each word 0, with the second not, and with the first row alone
+  -- files that open so, of either version and as large as they may be; with each word 0
   pub open-so : EmptyOpening (noLots 32) × EmptyOpening (noCalls 32) × EmptyOpening nothingYet
   pub each-word-0 : EmptyOpening (noCalls 2) × NoBits (noCalls 2) 2
-  pub second-word-1 : EmptyOpening (book 2 0 (0 ∷ 1 ∷ [])) × NoBits (book 2 0 (0 ∷ 1 ∷ [])) 1
-  pub second-row-missing : EmptyOpening (book 2 0 (0 ∷ [])) × NoBits (book 2 0 (0 ∷ [])) 1
-  -- a book of eight by eight, and one above it that is refused by none of 1 to 4
+  -- a book of eight by eight
   pub within-eight : Alike eightByEight ticket (replicate 64 9)
-  pub above-eight : AboveEight (book 9 1 []) × AboveEight (book 1 9 [])
 
 length-1235 : orderLength book1235 ≡ 15
 unfolding problemOf rowAt u16At u32At sum ones
@@ -180,17 +174,6 @@ of-version-2 : (bookVersion bookRebates ≡ 2) × Eligible (problemOf bookRebate
 unfolding problemOf rowAt u16At u32At ones
 of-version-2 = (refl, admitted-inside bookRebates _ _ tt)
 
-low-first : FirstOutside (rowAt (singleSigned lowCost) 0) 2 1 0
-unfolding rowAt u16At u32At ones onesIn
-low-first = record {
-  word-below = lit< tt;
-  whole = lit≤ tt;
-  inside = lit< tt;
-  set = tt;
-  outside = λ (low, _). low .le;
-  first = λ k less. absurd (omega arith);
-}
-
 reads-amounts : readAmounts book1235 amounts5436 ≡ gives (record { lots = 2; calls = 2 })
 unfolding readAmounts readAmountsOf u16At u32At readOpening every
 reads-amounts = rw reads-1235 refl
@@ -223,58 +206,51 @@ opens-most = (
   record { opens = refl; lots-few = lit≤ tt; calls-few = lit≤ tt; empty = inl refl },
 )
 
-first-0 : (rows : List ℕ) → NoBits (book 2 0 (0 ∷ rows)) 1
-unfolding u16At u32At
-first-0 rows = record { stand = omega arith; are-0 = λ i h. let first : i ≡ 0 = omega arith in rw first refl }
-
 pub not-vacuous : NotVacuous
 not-vacuous =
-    let found = known-examples .f1-found .0 in
+    let is-found = known-examples .f1-found .0 in
     let long : orderLength bookDiagonal ≤ 19 = omega (arith, length-diagonal) in
-    let (_, by) = demand3 .by-returned book1235 orderBuffer 15 found in
-    let idle = request2 .runs bookSpare amountsSpare (replicate 5 8) _ (idle-cases .spare) in
-    let rebates = demand3 .find-and-run bookRebates amounts5436 (replicate 4 9) _ (rebate-cases .rebates) in
-    let idle-rebate = request2 .runs bookRebate amountsRebate (8 ∷ 8 ∷ []) _ (rebate-cases .idle-rebate) in
+    let (_, by) = demand3 .by-returned book1235 orderBuffer 15 is-found in
+    let spare = demand3 .best idle bookSpare amountsSpare (replicate 5 8) _ (idle-cases .spare) in
+    let rebates = demand3 .best byFound bookRebates amounts5436 (replicate 4 9) _ (rebate-cases .rebates) in
+    let rebate = demand3 .best idle bookRebate amountsRebate (8 ∷ 8 ∷ []) _ (rebate-cases .idle-rebate) in
     record {
       readable = (_, reads-1235);
       long-enough = omega (arith, length-1235);
-      found = rw length-1235 found;
+      found = rw length-1235 is-found;
       some-good = (orderPairs order, by .good);
-      some-passing = (_, demand2 .only-these book1235 _ _ (demand2 .read-back book1235 orderBuffer 15 found));
+      some-passing = (_, demand2 .only-these book1235 _ _ (demand2 .read-back book1235 orderBuffer 15 is-found));
       amounts-read = reads-amounts;
       run-accepted = runs-1235;
-      some-meets = by .best amounts5436 flowBuffer outcome runs-1235 .verdicts .full-iff .0 refl;
-      some-meets-calls = demand3 .find-and-run bookGap amounts8 _ _ (known-examples .f8 .0) .verdicts .met-iff .0 (inr refl);
+      some-meets = demand3 .best (byOrder order) book1235 amounts5436 flowBuffer outcome runs-1235 .full-iff .0 refl;
+      some-meets-calls = demand3 .best byFound bookGap amounts8 _ _ (known-examples .f8 .0) .met-iff .0 (inr refl);
       none-meets-calls = λ x m.
-          let best = demand3 .find-and-run bookEmpty amounts10 _ _ (known-examples .f10-placed .0) in
-          ⊎-elim short-not-full short-not-covered (best .verdicts .met-iff .1 (x, m));
+          let best = demand3 .best byFound bookEmpty amounts10 _ _ (known-examples .f10-placed .0) in
+          ⊎-elim short-not-full short-not-covered (best .met-iff .1 (x, m));
       none-good = (
         (_, reads-diagonal),
         λ S good. not-both (demand3 .finds bookDiagonal (replicate 19 7) (_, reads-diagonal) long S good) (known-examples .f9),
       );
-      idle-run = idle;
-      idle-meets = idle .covered-by-totals .0 refl .1;
+      idle-meets = spare .met-iff .0 (inr refl);
       idle-none-good = (
         idle-allowed,
-        λ S good. not-both (request2 .finds bookCorners _ _ idle-allowed S good .1) (idle-cases .no-order),
+        λ S good. not-both (idle-found bookCorners _ _ idle-allowed S good .1) (idle-cases .no-order),
       );
       quadruple-holds = three-1-3;
       quadruple-too-high = three-3-1;
       quadruple-not-eligible = three-gap;
-      quadruple-own = let own = three-gap .own in record { readable = three-gap .readable; own = own; by-lot = own; by-call = own };
       version-1 = (of-version-1, three-1-3 .own);
       version-2 = ((_, reads-rebates), of-version-2 .0, of-version-2 .1);
-      first-outside = low-first;
-      least-below-zero = (rebates .verdicts .full-iff .0 refl, rebates .least-cost);
-      idle-below-zero = (idle-rebate .covered-by-totals .0 refl .1, idle-rebate .least-cost);
+      least-below-zero = (rebates .full-iff .0 refl, rebates .least-cost);
+      idle-below-zero = (
+        rebate .met-iff .0 (inr refl),
+        request2 .least-cost bookRebate amountsRebate (8 ∷ 8 ∷ []) _ (rebate-cases .idle-rebate),
+      );
       no-lots-yet = (empty-cases .reads-no-lots, inl refl);
       no-calls-yet = (empty-cases .reads-no-calls, inr refl);
       no-lots-asked = (empty-cases .amounts-of-calls, inl refl);
       no-calls-stocked = (empty-cases .amounts-read, inr refl);
       open-so = opens-most;
       each-word-0 = (opens-empty (0 ∷ 0 ∷ []), request5 .reads (noCalls 2) (opens-empty (0 ∷ 0 ∷ [])) .0 (empty-cases .reads-no-calls) .0);
-      second-word-1 = (opens-empty (0 ∷ 1 ∷ []), first-0 (1 ∷ []));
-      second-row-missing = (opens-empty (0 ∷ []), first-0 []);
-      within-eight = request6 .within eightByEight ticket (replicate 64 9) (omega arith) (omega arith);
-      above-eight = (request6 .refused-20 _ [] [] .0 (panel-cases .nine-lots), request6 .refused-20 _ [] [] .0 (panel-cases .nine-calls));
+      within-eight = request6 .alike eightByEight ticket (replicate 64 9) (not-both (panel-cases .eight));
     }

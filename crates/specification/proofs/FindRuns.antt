@@ -1,32 +1,30 @@
 -- Finding and running in one call: it replies and writes as the run by the order found.
 use mathlib.Core.Path.{_≡_, refl, sym, _∙_, ap}
-use mathlib.Core.Logic.{inl}
 use mathlib.Core.Bool.{Bool, true, false}
 use mathlib.Core.List.{List, []}
-use mathlib.Core.Option.{Option, some, none}
+use mathlib.Core.Option.{some, none}
 use Prim.Native.Nat.{ℕ, _*_, _≤_, _<_}
-use native.Mathlib.Omega.{arith}
-use borrow.Author.Tests.{le-ltb}
-use lib.Dec.{ltb, ltb→lt, nltb→le}
+use lib.Dec.{ltb→lt, nltb→le}
 use lib.ListN.{length}
 use Rattle.transport.specs.Greedy.{Pair}
 use Rattle.transport.specs.Finder.{find}
 use Rattle.specification.specs.declared.Refusal.the-variants as refusal
-use Rattle.specification.specs.Reply.{Reply, gives, refuses, _>>=_, refuseIf, afterwards, Size}
+use Rattle.specification.specs.Reply.{Reply, gives, refuses, _>>=_, refuseIf, afterwards, Size, Outcome}
 use Rattle.specification.specs.Book.{readBook, problemOf, costsOf}
 use Rattle.specification.specs.Amounts.{readAmounts}
 use Rattle.specification.specs.OrderFile.{orderCount, orderPairs, orderFile}
 use Rattle.specification.specs.Check.{checkOrder}
 use Rattle.specification.specs.Run.{greedyOn, outcome, flowTooShort, runOrder, runFlow}
-use Rattle.specification.specs.Find.{orderLength, orderOr13, foundOrder, findOrder, foundToRun, findAndRun, findAndRunFlow}
-use Rattle.specification.specs.Demands.{Readable}
-use Rattle.specification.proofs.Replies.{Says, giving, UpToOr21, allow-more, not-both, gives-less, says-known, says-then, says-unless}
-use Rattle.specification.proofs.Replies.{says-afterwards}
-use Rattle.specification.proofs.AmountsFiles.{AmountsOrBookRefused, amounts-say, amounts-read, book-of-amounts}
-use Rattle.specification.proofs.Lines.{amounts-in-table}
+use Rattle.specification.specs.Find.{orderOr13, foundToRun, findAndRun, findAndRunFlow}
+use Rattle.specification.specs.Entry.{byFound}
+use Rattle.specification.specs.Demands.{Readable, RanBy}
+use Rattle.specification.proofs.Replies.{Says, giving, gives-less, says-known, says-then, says-unless}
+use Rattle.specification.proofs.Replies.{said-of-given, says-afterwards}
+use Rattle.specification.proofs.AmountsFiles.{AmountsOrBookRefused, amounts-say, book-of-amounts}
 use Rattle.specification.proofs.Checks.{check-passes}
 use Rattle.specification.proofs.OrderFiles.{order-back}
 use Rattle.specification.proofs.Flows.{length-flowOf}
+use Rattle.specification.proofs.Runs.{ran}
 use Rattle.specification.proofs.Finds.{or-13-says, found-passes}
 
 pub data FindRunRefused (book amounts flow : List ℕ) : ℕ → List ℕ → Type 0 where
@@ -36,12 +34,6 @@ pub data FindRunRefused (book amounts flow : List ℕ) : ℕ → List ℕ → Ty
       → FindRunRefused book amounts flow 17 []
   no-order : {n : Size} → readAmounts book amounts ≡ gives n → problemOf book .lots * problemOf book .calls ≤ length flow
       → find (problemOf book) ≡ none → FindRunRefused book amounts flow 13 []
-
--- each is a line of the table
-pub find-run-in-table : {book amounts flow : List ℕ} {k : ℕ} {vs : List ℕ} → FindRunRefused book amounts flow k vs → UpToOr21 17 k vs
-find-run-in-table (of-amounts q e) = allow-more (omega arith) (amounts-in-table q)
-find-run-in-table (flow-too-short reads h) = ((refusal.BufferTooShort, refl, refl), inl (omega arith))
-find-run-in-table (no-order reads long e) = ((refusal.NoOrder, refl, refl), inl (omega arith))
 
 pub found-to-run-says : (book amounts flow : List ℕ)
     → Says (λ S. (find (problemOf book) ≡ some S) × (problemOf book .lots * problemOf book .calls ≤ length flow) × Readable book)
@@ -108,31 +100,10 @@ pub find-and-run-is-run : (book amounts flow : List ℕ) (S : List Pair) → fin
 find-and-run-is-run book amounts flow S found = find-and-run-as book (orderFile S) amounts flow (found ∙ ap some (sym (order-back S)))
     (λ readable. check-passes book (orderFile S) (found-passes book S readable found))
 
--- 13: the amounts are read and the flow is long enough, and there is no order
-none-refused : (book amounts flow : List ℕ) (size : Size) → readAmounts book amounts ≡ gives size
-    → size .lots * size .calls ≤ length flow → find (problemOf book) ≡ none
-    → (refuses 13 [] ≡ findAndRun book amounts flow) × (flow ≡ findAndRunFlow book amounts flow)
-unfolding foundToRun findAndRun findAndRunFlow problemOf
-none-refused book amounts flow size read h f =
-    let long = le-ltb _ _ (rw (amounts-read book amounts size read .0 .sizes) at h) in
-    simp (read, long) (rw (f, orderOr13) (refl, refl))
-
--- where the finder replies 13 to a readable book, there is none
-no-order-of-13 : (book buffer : List ℕ) (n : Size) → readBook book ≡ gives n → findOrder book buffer ≡ refuses 13 []
-    → find (problemOf book) ≡ none
-unfolding foundOrder findOrder
-no-order-of-13 book buffer n reads e = by-length (ltb (length buffer) (orderLength book)) refl (find (problemOf book)) refl
-  where
-    by-length : (short : Bool) → ltb (length buffer) (orderLength book) ≡ short → (o : Option (List Pair)) → find (problemOf book) ≡ o
-        → find (problemOf book) ≡ none
-    by-length true s o f =
-        let q : refuses 17 [] ≡ refuses 13 [] = rw (reads, s) at e in
-        let z : _≡_ {A = ℕ} 17 13 = cc in
-        absurd (omega arith)
-    by-length false s none f = f
-    by-length false s (some S) f = absurd (not-both refl (rw (reads, s, f, orderOr13) at e))
-
-pub find-and-run-refused-13 : (book buffer : List ℕ) → findOrder book buffer ≡ refuses 13 [] → (amounts flow : List ℕ) (n : Size)
-    → readAmounts book amounts ≡ gives n → n .lots * n .calls ≤ length flow → findAndRun book amounts flow ≡ refuses 13 []
-find-and-run-refused-13 book buffer e amounts flow n read long =
-    sym (none-refused book amounts flow n read long (no-order-of-13 book buffer n (book-of-amounts book amounts n read) e) .0)
+-- so it writes and replies what GREEDY by that order does
+pub ran-found : (book amounts flow : List ℕ) (o : Outcome) → findAndRun book amounts flow ≡ gives o
+    → RanBy byFound book amounts flow o
+ran-found book amounts flow o e =
+    let (S, is-found, _, _) = said-of-given (find-and-run-says book amounts flow) o e in
+    let (reply, writes) = find-and-run-is-run book amounts flow S is-found in
+    (S, is-found, rw writes (rw (order-back S) at (ran book (orderFile S) amounts flow o (sym reply ∙ e))))

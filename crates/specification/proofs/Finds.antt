@@ -12,7 +12,6 @@ use Rattle.transport.specs.Problem.{Problem}
 use Rattle.transport.specs.Greedy.{Pair}
 use Rattle.transport.specs.Signed.{Lifts}
 use Rattle.transport.specs.Finder.{find, size}
-use Rattle.transport.proofs.Orders.Lists.{lists-of-order}
 use Rattle.transport.proofs.Orders.Length.{order-length}
 use Rattle.transport.proofs.Greedy.Optimal.{good-of-monge}
 use Rattle.transport.proofs.Greedy.Converse.{monge-of-good}
@@ -28,7 +27,6 @@ use Rattle.specification.proofs.Replies.{
   Says,
   giving,
   refusing,
-  UpTo,
   said-of-given,
   gives-less,
   says-known,
@@ -36,15 +34,12 @@ use Rattle.specification.proofs.Replies.{
   says-unless,
   says-afterwards,
 }
-use Rattle.specification.proofs.Books.{book-monge, BookRefused, book-says, book-read, size-within, pair-within}
-use Rattle.specification.proofs.Lines.{book-in-table}
+use Rattle.specification.proofs.Books.{book-monge, BookRefused, book-says}
 use Rattle.specification.proofs.OrderFiles.{
   order-back,
   order-file-length,
   order-file-shaped,
   order-file-taken,
-  AllBytes,
-  order-file-bytes,
 }
 
 -- what is found is a good order, and where nothing is found there is none, by costs of which the problem's are lifted
@@ -143,17 +138,3 @@ written book buffer n e =
       contents = contents;
       file = ap (take (orderLength book)) contents ∙ file-of book buffer S (gave .found);
     }
-
--- each refusal is a line of the table
-pub find-in-table : {book buffer : List ℕ} {k : ℕ} {vs : List ℕ} → FindRefused book buffer k vs → UpTo 17 k vs
-find-in-table (of-book q e) = let (line, low) = book-in-table q in (line, omega arith)
-find-in-table (buffer-too-short readable h) = ((refusal.BufferTooShort, refl, refl), omega arith)
-find-in-table (no-order readable long e) = ((refusal.NoOrder, refl, refl), omega arith)
-
--- the finder's file is made of bytes
-pub found-file-bytes : (book : List ℕ) (S : List Pair) → Readable book → find (problemOf book) ≡ some S → AllBytes (orderFile S)
-found-file-bytes book S (n, e) found =
-    let read = book-read book n e in
-    let order = find-is-order (problemOf book) S found in
-    order-file-bytes S (omega (arith, order-length order, size-within read))
-    (λ i j h. let within = pair-within read i j (lists-of-order order .eligible i j h) in omega arith)

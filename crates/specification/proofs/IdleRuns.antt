@@ -1,44 +1,41 @@
 -- What the run with an idle call says: the amounts are read, 18, 19 and 17 do not apply, and the outcome and the flow are those of the real
 -- calls by the order that is found for the enlarged book. That order is a Monge sequence of it, so by the theorems on the idle call the run is
 -- Full or Covered exactly when some allocation meets everything or every call, and no allocation that meets every call costs less.
-use mathlib.Core.Path.{_≡_, refl, sym, _∙_, ap}
-use mathlib.Core.Logic.{inl, inr, ⊎-elim, _↔_}
+use mathlib.Core.Path.{_≡_, refl, sym, _∙_}
 use mathlib.Core.List.{List, []}
 use mathlib.Core.Option.{some, none}
 use Prim.Native.Nat.{ℕ, _*_, _≤_, _<_}
 use native.Mathlib.Omega.{arith}
 use lib.Dec.{ltb, eqb, ltb→lt, nltb→le, eqb→eq, T-not}
 use lib.ListN.{length}
-use borrow.Author.Tests.{lt-ltb, le-ltb, ne-eqb}
-use Rattle.transport.specs.Problem.{Problem}
+use lib.Signed.{_≤ℤ_}
+use Rattle.transport.specs.Problem.{Problem, MeetsCalls}
 use Rattle.transport.specs.Greedy.{Pair}
 use Rattle.transport.specs.Order.{OrderOf, Monge}
-use Rattle.transport.specs.Signed.{Lifts}
+use Rattle.transport.specs.Signed.{signedCost, Lifts}
 use Rattle.transport.specs.Finder.{find}
-use Rattle.transport.proofs.Greedy.Calls.{meets-calls-of-meets, totals-of-meets, meets-of-totals}
+use Rattle.transport.proofs.Greedy.Calls.{meets-calls-of-meets}
 use Rattle.transport.proofs.Greedy.Idle.{idle-kept}
 use Rattle.transport.proofs.Greedy.Signed.{idle-lifts, signed-idle-least}
 use Rattle.transport.proofs.Finder.Find.{find-is-order, find-is-monge}
 use Rattle.transport.proofs.Theorems.Idle.{idle-most, idle-covers-iff, idle-spends-iff}
 use Rattle.specification.specs.declared.Refusal.the-variants as refusal
-use Rattle.specification.specs.Reply.{Reply, gives, refuses, Size, Outcome, full, covered}
+use Rattle.specification.specs.Reply.{Reply, gives, refuses, Size, Outcome}
 use Rattle.specification.specs.Costs.{costBase}
 use Rattle.specification.specs.Book.{bookVersion, bookCalls, problemOf, costsOf}
 use Rattle.specification.specs.Amounts.{readAmounts, lotAmount, callAmount}
 use Rattle.specification.specs.Run.{outcome, flowTooShort}
 use Rattle.specification.specs.Idle.{enlarged, enlargedCosts, lotsTotal, callsTotal, greedyIdleOn}
 use Rattle.specification.specs.Idle.{foundToRunIdle, findAndRunIdle, findAndRunIdleFlow}
-use Rattle.specification.specs.Demands.{Verdicts, GoodOrder}
-use Rattle.specification.specs.Requests.{SomeMeetsCalls, Allowed, IdleRun, Request2}
+use Rattle.specification.specs.Entry.{idle}
+use Rattle.specification.specs.Demands.{RanBy, BestOn, GoodOrder}
+use Rattle.specification.specs.Requests.{Request2}
 use Rattle.specification.proofs.Replies.{
   Says,
   giving,
-  UpToOr21,
-  allow-more,
   not-both,
   said-of-given,
   gives-if-never-refused,
-  refused-if-never-given,
   gives-less,
   says-known,
   says-then,
@@ -47,11 +44,18 @@ use Rattle.specification.proofs.Replies.{
 }
 use Rattle.specification.proofs.Books.{book-lifts}
 use Rattle.specification.proofs.AmountsFiles.{AmountsOrBookRefused, amounts-say, amounts-read}
-use Rattle.specification.proofs.Lines.{amounts-in-table}
-use Rattle.specification.proofs.Verdicts.{verdicts-of}
+use Rattle.specification.proofs.Verdicts.{best-of}
 use Rattle.specification.proofs.Flows.{length-flowOf}
 use Rattle.specification.proofs.Runs.{ran-of}
-use Rattle.specification.proofs.Finds.{found-is-good, none-is-good, or-13-says}
+use Rattle.specification.proofs.Finds.{none-is-good, or-13-says}
+
+-- none of the refusals before 13 applies
+pub record Allowed (book amounts flow : List ℕ) : Type 0 where
+  pub size : Size
+  pub reads : readAmounts book amounts ≡ gives size
+  pub not-18 : callsTotal book amounts ≤ lotsTotal book amounts
+  pub not-19 : size .calls < 32
+  pub not-17 : size .lots * size .calls ≤ length flow
 
 -- the refusals of a run with an idle call, each where those before it do not apply
 pub data IdleRefused (book amounts flow : List ℕ) : ℕ → List ℕ → Type 0 where
@@ -64,14 +68,6 @@ pub data IdleRefused (book amounts flow : List ℕ) : ℕ → List ℕ → Type 
   flow-too-short : {n : Size} → readAmounts book amounts ≡ gives n → callsTotal book amounts ≤ lotsTotal book amounts
       → n .calls < 32 → length flow < n .lots * n .calls → IdleRefused book amounts flow 17 []
   no-order : Allowed book amounts flow → find (enlarged book) ≡ none → IdleRefused book amounts flow 13 []
-
--- each is a line of the table
-pub idle-in-table : {book amounts flow : List ℕ} {k : ℕ} {vs : List ℕ} → IdleRefused book amounts flow k vs → UpToOr21 19 k vs
-idle-in-table (of-amounts q e) = allow-more (omega arith) (amounts-in-table q)
-idle-in-table (calls-exceed-lots reads h) = ((refusal.CallsExceedLots, refl, refl), inl (omega arith))
-idle-in-table (no-idle-call reads h e) = ((refusal.NoIdleCall, refl, refl), inl (omega arith))
-idle-in-table (flow-too-short reads h few short) = ((refusal.BufferTooShort, refl, refl), inl (omega arith))
-idle-in-table (no-order allowed e) = ((refusal.NoOrder, refl, refl), inl (omega arith))
 
 -- the order of the enlarged book, where none of them applies
 pub record IdleGave (book amounts flow : List ℕ) (S : List Pair) : Type 0 where
@@ -116,54 +112,47 @@ module _ (book amounts flow : List ℕ) where
   unfolding findAndRunIdle
   idle-says = says-then _ (says-known found-idle-says) (λ k vs q. q .0) (λ S (gave, it). giving (S, gave, it, refl))
 
--- what the two totals say of a verdict: Full where they are equal, and Covered where the lots' is higher
-module _ (book amounts : List ℕ) (o : Outcome) (enough : callsTotal book amounts ≤ lotsTotal book amounts)
-    (verdicts : Verdicts book amounts o) where
-  by-equal-totals : (o .verdict ≡ full) ↔ ((callsTotal book amounts ≡ lotsTotal book amounts) × SomeMeetsCalls book amounts)
-  by-equal-totals = (
-    λ e. let (x, m) = verdicts .full-iff .0 e in (sym (totals-of-meets m), (x, meets-calls-of-meets m)),
-    λ (equal, (x, m)). verdicts .full-iff .1 (x, meets-of-totals (sym equal) m),
-  )
-
-  by-higher-total : (o .verdict ≡ covered) ↔ ((callsTotal book amounts < lotsTotal book amounts) × SomeMeetsCalls book amounts)
-  by-higher-total = (
-    λ e.
-        let some-meets = verdicts .met-iff .0 (inr e) in
-        let differ : (callsTotal book amounts ≡ lotsTotal book amounts → ⊥) =
-        λ equal. not-covered e (by-equal-totals .1 (equal, some-meets)) in
-        (omega (arith, enough, differ), some-meets),
-    λ (less, some-meets). ⊎-elim (λ e. absurd (omega (arith, by-equal-totals .0 e .0))) (λ e. e) (verdicts .met-iff .1 some-meets),
-  )
-    where
-      not-covered : o .verdict ≡ covered → o .verdict ≡ full → ⊥
-      not-covered e f = let z : _≡_ {A = ℕ} 0 1 = cc in omega arith
-
 -- an accepted run, by the order found
-idle-run-by : (book amounts flow : List ℕ) (o : Outcome) (S : List Pair) → IdleGave book amounts flow S
-    → foundToRunIdle book amounts flow ≡ gives S → o ≡ outcome (problemOf book) (costsOf book) (greedyIdleOn book S amounts)
-    → IdleRun book amounts flow o
-unfolding findAndRunIdleFlow
-idle-run-by book amounts flow o S gave it is =
-    let P : Problem = problemOf book in
-    let base : ℕ = costBase (bookVersion book) in
-    let (a, b) : (ℕ → ℕ) × (ℕ → ℕ) = (lotAmount amounts, callAmount book amounts) in
-    let order : OrderOf (enlarged book) S = find-is-order (enlarged book) S (gave .found) in
-    let monge : Monge (enlarged book) S = find-is-monge (enlarged book) S (gave .found) in
-    let verdicts : Verdicts book amounts o =
-    rw is (verdicts-of book amounts _ (idle-spends-iff base P order a b monge) (idle-covers-iff base P order a b monge)) in
-    record {
-      allowed = gave .allowed;
-      ran = record {
-        order = S;
-        found = gave .found;
-        ran = rw (it, is) (ran-of P (costsOf book) (idle-kept base P order a b) flow (long-enough book amounts flow (gave .allowed)));
-      };
-      least-cost = λ x m. rw is (signed-idle-least (lifts-of book amounts flow (gave .allowed)) order monge a b m .1);
-      greatest-units = λ x h. rw is (idle-most base P order a b monge (gave .allowed .not-18) x h);
-      verdicts = verdicts;
-      full-by-totals = by-equal-totals book amounts o (gave .allowed .not-18) verdicts;
-      covered-by-totals = by-higher-total book amounts o (gave .allowed .not-18) verdicts;
-    }
+module _ (book amounts flow : List ℕ) (S : List Pair) (gave : IdleGave book amounts flow S) where
+  abbrev P : Problem
+  P = problemOf book
+
+  abbrev base : ℕ
+  base = costBase (bookVersion book)
+
+  abbrev o : Outcome
+  o = outcome P (costsOf book) (greedyIdleOn book S amounts)
+
+  order : OrderOf (enlarged book) S
+  order = find-is-order (enlarged book) S (gave .found)
+
+  monge : Monge (enlarged book) S
+  monge = find-is-monge (enlarged book) S (gave .found)
+
+  ran-by : foundToRunIdle book amounts flow ≡ gives S → RanBy idle book amounts flow o
+  unfolding findAndRunIdleFlow
+  ran-by it = (
+    S,
+    gave .found,
+    rw it (ran-of P (costsOf book) (idle-kept base P order (lotAmount amounts) (callAmount book amounts)) flow
+        (long-enough book amounts flow (gave .allowed))),
+  )
+
+  least : (x : ℕ → ℕ → ℕ) → MeetsCalls P (lotAmount amounts) (callAmount book amounts) x → o .cost ≤ℤ signedCost P (costsOf book) x
+  least x m = signed-idle-least (lifts-of book amounts flow (gave .allowed)) order monge (lotAmount amounts) (callAmount book amounts) m .1
+
+  best-by : BestOn book amounts o
+  best-by =
+      let (a, b) : (ℕ → ℕ) × (ℕ → ℕ) = (lotAmount amounts, callAmount book amounts) in
+      best-of P (costsOf book) a b _ (idle-spends-iff base P order a b monge) (idle-covers-iff base P order a b monge)
+      (λ x m. least x (meets-calls-of-meets m)) (idle-most base P order a b monge (gave .allowed .not-18))
+
+module _ (book amounts flow : List ℕ) (o : Outcome) (e : findAndRunIdle book amounts flow ≡ gives o) where
+  pub ran-idle : RanBy idle book amounts flow o
+  ran-idle = let (S, gave, it, is) = said-of-given (idle-says book amounts flow) o e in rw is (ran-by book amounts flow S gave it)
+
+  pub best-idle : BestOn book amounts o
+  best-idle = let (S, gave, _, is) = said-of-given (idle-says book amounts flow) o e in rw is (best-by book amounts flow S gave)
 
 -- amounts are read with one size
 same-size : (book amounts : List ℕ) {n m : Size} → readAmounts book amounts ≡ gives n → readAmounts book amounts ≡ gives m → n ≡ m
@@ -182,37 +171,14 @@ module _ (book amounts flow : List ℕ) (allowed : Allowed book amounts flow) wh
   lifts : Lifts (costBase (bookVersion book)) (enlarged book) (enlargedCosts book)
   lifts = idle-lifts (lifts-of book amounts flow allowed)
 
-  idle-found : (S : List Pair) → GoodOrder (enlarged book) (enlargedCosts book) S → (o : Outcome) × (findAndRunIdle book amounts flow ≡ gives o)
+  pub idle-found : (S : List Pair) → GoodOrder (enlarged book) (enlargedCosts book) S → (o : Outcome) × (findAndRunIdle book amounts flow ≡ gives o)
   idle-found S good =
       let (o, _, e) = gives-if-never-refused (idle-says book amounts flow) (λ k vs q. none-is-good lifts (only-13 q .1) S good) in
       (o, e)
 
-  idle-refused : ((S : List Pair) → GoodOrder (enlarged book) (enlargedCosts book) S → ⊥) → findAndRunIdle book amounts flow ≡ refuses 13 []
-  idle-refused never =
-      let (k, vs, q, e) = refused-if-never-given (idle-says book amounts flow)
-      (λ o (S, gave, _, _). never S (found-is-good lifts S (gave .found))) in
-      e ∙ only-13 q .0
-
-refused-by-17 : (book amounts flow : List ℕ) (n : Size) → readAmounts book amounts ≡ gives n
-    → callsTotal book amounts ≤ lotsTotal book amounts → n .calls < 32 → length flow < n .lots * n .calls
-    → findAndRunIdle book amounts flow ≡ refuses 17 []
-unfolding findAndRunIdle foundToRunIdle problemOf
-refused-by-17 book amounts flow n reads enough few short =
-    let sizes = amounts-read book amounts n reads .0 .sizes in
-    let room : bookCalls book < 32 = rw sizes at few in
-    rw (reads, le-ltb _ _ enough, ne-eqb (bookCalls book) 32 (λ e. omega arith), lt-ltb _ _ (rw sizes at short)) refl
-
 pub request2 : Request2
-unfolding findAndRunIdle foundToRunIdle
 request2 = record {
-  runs = λ book amounts flow o e.
-      let (S, gave, it, is) = said-of-given (idle-says book amounts flow) o e in
-      idle-run-by book amounts flow o S gave it is;
-  refused-amounts = λ book amounts flow k vs e. rw e refl;
-  refused-18 = λ book amounts flow n reads h. rw (reads, lt-ltb _ _ h) refl;
-  refused-19 = λ book amounts flow n reads h e.
-      rw (reads, le-ltb _ _ h, sym (ap (λ s. s .calls) (amounts-read book amounts n reads .0 .sizes)) ∙ e) refl;
-  refused-17 = refused-by-17;
-  finds = idle-found;
-  or-13 = idle-refused;
+  least-cost = λ book amounts flow o e.
+      let (S, gave, _, is) = said-of-given (idle-says book amounts flow) o e in
+      rw is (least book amounts flow S gave);
 }

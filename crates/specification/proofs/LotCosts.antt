@@ -1,22 +1,25 @@
--- The stretch of a lot's costs: it has four bytes for each set bit of the lot's word, and the cost of an eligible pair (i, j) stands in it
--- behind as many costs as there are set bits below bit j.
-use mathlib.Core.Path.{_≡_, refl, _∙_, ap}
+-- The stretch of a lot's costs: it has four bytes for each call that the lot is eligible for, and the cost of an eligible pair (i, j) stands in
+-- it behind those of the calls below j. These are the set bits of the lot's word.
+use mathlib.Core.Path.{_≡_, refl, sym, _∙_, ap}
 use mathlib.Core.List.{List}
 use mathlib.Core.Bool.{_&&_}
-use Prim.Native.Nat.{ℕ, _*_, _%_, _^_, _<_}
+use Prim.Native.Nat.{ℕ, _*_, _%_, _^_, _≤_, _<_}
+use native.Mathlib.Nat.{mod-eq-of-lt}
 use native.Mathlib.Omega.{arith}
+use borrow.Author.Tests.{lt-ltb}
 use lib.Count.{ones}
 use lib.Dec.{T, ltb, lt→ltb}
 use lib.ListN.{length, take, drop, length-drop}
 use lib.Seq.{length-take-le}
+use Rattle.transport.proofs.Laws.Sums.{sum-cong}
 use Rattle.transport.proofs.Laws.Tests.{T-true, and-says}
 use Rattle.specification.specs.Reply.{gives, Size}
 use Rattle.specification.specs.Bytes.{u32At}
 use Rattle.specification.specs.Costs.{heldCost}
-use Rattle.specification.specs.Book.{bit, rowWord, rowCost, bookVersion, bookLots, bookCalls, readBook, rowAt}
-use Rattle.specification.specs.Book.{problemOf, costsOf, lotCosts}
+use Rattle.specification.specs.Book.{bit, rowWord, rowCost, bookVersion, bookLots, bookCalls, readBook, rowAt, problemOf, costsOf, lotCosts}
+use Rattle.specification.specs.Demands.{callsBelow}
 use Rattle.specification.proofs.Numbers.{u32-take, u32-drop}
-use Rattle.specification.proofs.Bits.{ones-below-lt}
+use Rattle.specification.proofs.Bits.{bits-counted, ones-below-lt}
 use Rattle.specification.proofs.Books.{book-read}
 
 module _ (book : List ℕ) (n : Size) (e : readBook book ≡ gives n) (i : ℕ) (inside : i < problemOf book .lots) where
@@ -29,14 +32,23 @@ module _ (book : List ℕ) (n : Size) (e : readBook book ≡ gives n) (i : ℕ) 
       let within : T (ltb i (n .lots)) = lt→ltb i (n .lots) (rw (book-read book n e .sizes) inside) in
       rw (e, T-true (ltb i (n .lots)) within) refl
 
-  pub lot-costs-length : length (lotCosts book i) ≡ 4 * ones (rowWord (rowAt book i))
+  calls-below : (j : ℕ) → j ≤ bookCalls book → callsBelow (problemOf book) i j ≡ ones (rowWord (rowAt book i) % 2 ^ j)
+  unfolding problemOf
+  calls-below j few =
+      sum-cong j _ _ (λ l h. rw (lt-ltb i (bookLots book) inside, lt-ltb l (bookCalls book) (omega arith)))
+      ∙ bits-counted (rowWord (rowAt book i)) j
+
+  pub lot-costs-length : length (lotCosts book i) ≡ 4 * callsBelow (problemOf book) i (n .calls)
   unfolding problemOf set-bits
   lot-costs-length =
-      let row = book-read book n e .row i inside in
+      let read = book-read book n e in
+      let row = read .row i inside in
       let costs : List ℕ = drop 4 (rowAt book i) in
+      let all : set-bits ≡ ones (rowWord (rowAt book i) % 2 ^ bookCalls book) = ap ones (sym (mod-eq-of-lt (row .word-below))) in
       ap length stretch-is ∙ length-take-le (4 * set-bits) costs (omega (arith, length-drop 4 (rowAt book i), row .costs-whole))
+      ∙ ap (λ k. 4 * k) (all ∙ sym (rw (read .sizes) (calls-below (bookCalls book) (omega arith))))
 
-  pub lot-cost-at : (j : ℕ) → T (problemOf book .admits i j)
+  lot-cost-at : (j : ℕ) → T (problemOf book .admits i j)
       → u32At (lotCosts book i) (4 * ones (rowWord (rowAt book i) % 2 ^ j)) ≡ rowCost (rowAt book i) j
   unfolding problemOf set-bits
   lot-cost-at j admitted =
@@ -47,7 +59,8 @@ module _ (book : List ℕ) (n : Size) (e : readBook book ≡ gives n) (i : ℕ) 
       ∙ u32-take (4 * set-bits) (drop 4 (rowAt book i)) at (omega (arith, ones-below-lt (rowWord (rowAt book i)) j set))
       ∙ u32-drop 4 (rowAt book i) at
 
-  pub lot-cost-held : (j : ℕ) → T (problemOf book .admits i j)
-      → heldCost (bookVersion book) (u32At (lotCosts book i) (4 * ones (rowWord (rowAt book i) % 2 ^ j))) ≡ costsOf book i j
-  unfolding costsOf
-  lot-cost-held j admitted = ap (heldCost (bookVersion book)) (lot-cost-at j admitted)
+  pub lot-cost-held : (j : ℕ) → j < problemOf book .calls → T (problemOf book .admits i j)
+      → heldCost (bookVersion book) (u32At (lotCosts book i) (4 * callsBelow (problemOf book) i j)) ≡ costsOf book i j
+  unfolding problemOf costsOf
+  lot-cost-held j few admitted =
+      rw (calls-below j (omega arith)) (ap (heldCost (bookVersion book)) (lot-cost-at j admitted))

@@ -12,6 +12,7 @@ use borrow.Author.Tests.{ne-eqb}
 use lib.Dec.{eqb}
 use lib.Seq.{ext-getD}
 use lib.IntN.{ℤ, pos, zero-*ℤ}
+use lib.ListN.{length}
 use Rattle.transport.specs.Problem.{Problem, Eligible, sum, lotSum, callSum, Meets, MeetsCalls}
 use Rattle.transport.specs.Greedy.{Pair}
 use Rattle.transport.specs.Order.{OrderOf}
@@ -100,8 +101,8 @@ module _ (P : Problem) (empty : Empty (P .lots) (P .calls)) where
     }
     nothing-placed = same-outcome by-totals no-units no-cost
 
-    pub nothing-written : after ≡ before
-    nothing-written = ext-getD 0 after before (ran .as-many) (λ k h. rw (no-cells, zero-add) at (ran .kept k))
+    pub nothing-written : length after ≡ length before → after ≡ before
+    nothing-written as-long = ext-getD 0 after before as-long (λ k h. rw (no-cells, zero-add) at (ran .kept k))
 
   -- the finder takes none
   pub found-none : find P ≡ some []

@@ -1,16 +1,13 @@
 -- The order file of a list of pairs, read back: it has the right opening and length, its count is the length of the list, and its pairs
--- are the list. It is made of bytes where the list is shorter than 65,536 and its lots and calls are below 256.
+-- are the list.
 use mathlib.Core.Path.{_≡_, refl, _∙_, ap}
 use mathlib.Core.List.{List, [], _∷_, _++_}
-use Prim.Native.Nat.{ℕ, zero, suc, _+_, _*_, _/_, _%_, _<_}
+use Prim.Native.Nat.{ℕ, _+_, _*_}
 use native.Mathlib.Omega.{arith}
-use lib.Dec.{lit<}
 use lib.ListN.{length, take}
 use lib.Seq.{take-at}
 use Rattle.transport.specs.Greedy.{Pair}
-use Rattle.transport.specs.Order.{times}
-use Rattle.transport.proofs.Orders.Places.{times-head, times-tail-le}
-use Rattle.specification.specs.Bytes.{byteAt, u16At, orderMark}
+use Rattle.specification.specs.Bytes.{u16At, orderMark}
 use Rattle.specification.specs.OrderFile.{orderCount, pairs, orderPairs, pairBytes, orderFile}
 use Rattle.specification.specs.Demands.{OrderShaped}
 use Rattle.specification.proofs.Replies.{gives-if-never-refused}
@@ -50,28 +47,3 @@ module _ (S : List Pair) where
   -- written over the front of a buffer it is what stands there
   pub order-file-taken : (n : ℕ) (rest : List ℕ) → length S ≡ n → take (7 + 2 * n) (orderFile S ++ rest) ≡ orderFile S
   order-file-taken n rest e = take-at (orderFile S) rest (7 + 2 * n) (omega (arith, order-file-length))
-
--- all are bytes
-pub data AllBytes : List ℕ → Type 0 where
-  no-bytes : AllBytes []
-  one-more : {a : ℕ} {s : List ℕ} → a < 256 → AllBytes s → AllBytes (a ∷ s)
-
-pub byte-below : {s : List ℕ} → AllBytes s → (k : ℕ) → byteAt s k < 256
-byte-below no-bytes k = omega arith
-byte-below (one-more h rest) zero = h
-byte-below (one-more h rest) (suc k) = byte-below rest k
-
-pair-bytes : (S : List Pair) → ((i j : ℕ) → 0 < times i j S → (i < 256) × (j < 256)) → AllBytes (pairBytes S)
-unfolding pairBytes
-pair-bytes [] small = no-bytes
-pair-bytes (p ∷ S) small =
-    let (lot, call) = small (p .lot) (p .call) (omega (arith, times-head p S)) in
-    one-more lot (one-more call (pair-bytes S (λ i j h. small i j (omega (arith, times-tail-le i j p S)))))
-
-pub order-file-bytes : (S : List Pair) → length S < 65536 → ((i j : ℕ) → 0 < times i j S → (i < 256) × (j < 256))
-    → AllBytes (orderFile S)
-order-file-bytes S short small =
-    let low : length S % 256 < 256 = omega arith in
-    let high : length S / 256 < 256 = omega arith in
-    one-more (lit< tt) (one-more (lit< tt) (one-more (lit< tt) (one-more (lit< tt) (one-more (lit< tt)
-    (one-more low (one-more high (pair-bytes S small)))))))

@@ -88,9 +88,5 @@ module _ (book : List ℕ) (i j k l : ℕ) (three : ThreeEligible book i j k l) 
 pub request3 : Request3
 request3 = record {
   told = told;
-  own-lot = λ book i j l three.
-      quadruple-holds (problemOf book) (pair i j) i l (T-true (problemOf book .admits i l) (three .by-lot .2)) (omega arith);
-  own-call = λ book i j k three.
-      quadruple-holds (problemOf book) (pair i j) k j (T-true (problemOf book .admits k j) (three .by-call .2)) (omega arith);
   in-book = λ book (n, reads) i j e. (cost-inside (book-read book n reads) i j e, cost-in-book book i j);
 }

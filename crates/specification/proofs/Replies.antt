@@ -1,33 +1,17 @@
 -- What a reply means. `Says G Q r`: where r gives a value, the value is of G; where r refuses, its number and values are of Q.
 -- It is closed under `_>>=_` and `refuseIf`, so that what a reader's reply means is read off its steps, a line for each.
 use mathlib.Core.Path.{_≡_, refl, subst}
-use mathlib.Core.Logic.{_⊎_, inl, inr, ⊎-elim, _↔_}
+use mathlib.Core.Logic.{_↔_}
 use mathlib.Core.Bool.{Bool, true, false, not, _||_}
 use mathlib.Core.List.{List}
-use Prim.Native.Nat.{ℕ, _≤_}
+use Prim.Native.Nat.{ℕ}
 use native.Mathlib.Omega.{arith}
 use lib.Dec.{T}
 use Rattle.specification.specs.Reply.{Reply, gives, refuses, _>>=_, afterwards, refuseIf, Never}
-use Rattle.specification.specs.Demands.{InTable}
 
 pub data Says {A : Type 0} (G : A → Type 0) (Q : ℕ → List ℕ → Type 0) : Reply A → Type 0 where
   giving : {a : A} → G a → Says G Q (gives a)
   refusing : {k : ℕ} {vs : List ℕ} → Q k vs → Says G Q (refuses k vs)
-
--- a refusal that is a line of the table, with a number up to `most`
-abbrev pub UpTo : ℕ → ℕ → List ℕ → Type 0
-UpTo most k vs = InTable k vs × (k ≤ most)
-
--- the same of a call that reads amounts: it may be 21
-abbrev pub UpToOr21 : ℕ → ℕ → List ℕ → Type 0
-UpToOr21 most k vs = InTable k vs × ((k ≤ most) ⊎ (k ≡ 21))
-
--- a higher number allows as much
-pub allow-more : {low high k : ℕ} {vs : List ℕ} → low ≤ high → UpToOr21 low k vs → UpToOr21 high k vs
-allow-more le (line, number) = (line, ⊎-elim (λ few. inl (omega arith)) inr number)
-
-pub allow-21 : {most high k : ℕ} {vs : List ℕ} → most ≤ high → UpTo most k vs → UpToOr21 high k vs
-allow-21 le (line, few) = (line, inl (omega arith))
 
 -- a reply does not give and refuse
 pub not-both : {A : Type 0} {r : Reply A} {a : A} {k : ℕ} {vs : List ℕ} → r ≡ gives a → r ≡ refuses k vs → ⊥

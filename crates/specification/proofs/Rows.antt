@@ -1,21 +1,19 @@
 -- What reading a file's opening and one row of a book say, each refusal where those before it in the stated order do not apply.
-use mathlib.Core.Path.{_≡_, refl, sym, _∙_, subst}
-use mathlib.Core.Logic.{_⊎_, inl, inr, ⊎-elim, by-cases}
+use mathlib.Core.Path.{_≡_, sym, _∙_, subst}
+use mathlib.Core.Logic.{⊎-elim}
 use mathlib.Core.Bool.{Bool, true, false, not, _&&_, true≢false}
 use mathlib.Core.List.{List, [], _∷_}
 use Prim.Native.Nat.{ℕ, zero, suc, _+_, _^_, _≤_, _<_}
-use native.Mathlib.Decide.{ℕ-discrete}
 use native.Mathlib.Omega.{arith}
-use lib.Dec.{T, ltb, leb, eqb, ltb→lt, nltb→le, leb→le, nleb→lt, T-not}
+use lib.Dec.{T, ltb, leb, ltb→lt, nltb→le, leb→le, nleb→lt, T-not}
 use lib.ListN.{length}
 use lib.Pow.{pow-mono}
-use borrow.Author.Tests.{lt-ltb, le-ltb, ne-eqb}
 use Rattle.transport.proofs.Laws.Tests.{T-true, T-false, and-says, below-suc}
-use Rattle.specification.specs.Reply.{refuses}
-use Rattle.specification.specs.Bytes.{u16At, marked, versionOutside, readOpening}
+use Rattle.specification.specs.Reply.{gives}
+use Rattle.specification.specs.Bytes.{marked, versionOutside, readOpening}
 use Rattle.specification.specs.Costs.{costOutside}
 use Rattle.specification.specs.Book.{bit, rowWord, rowSize, rowCost, readCosts, readRow}
-use Rattle.specification.proofs.Replies.{Says, giving, gives-less, says-unless, says-if, test-of-twice-not, neither-of-or}
+use Rattle.specification.proofs.Replies.{Says, giving, passes-exactly, gives-less, says-unless, says-if, test-of-twice-not}
 use Rattle.specification.proofs.Bits.{bit-le, bit-from}
 
 -- the seven bytes that open a file
@@ -50,34 +48,6 @@ opened-not-refused opened (under-seven h) = omega (arith, opened .seven)
 opened-not-refused opened (mark-differs h differs) = differs (opened .mark-stands)
 opened-not-refused {newest = newest} {s = s} opened (other-version h stands other) =
     T-not (versionOutside newest s) (opened .version-stands) other
-
--- of two versions, it is one of them
-pub opened-version : {mark s : List ℕ} → Opened mark 2 s → (u16At s 3 ≡ 1) ⊎ (u16At s 3 ≡ 2)
-opened-version {mark} {s} opened =
-    let version : ℕ = u16At s 3 in
-    let (some, few) = neither-of-or (eqb version 0) (ltb 2 version) (opened .version-stands) in
-    let positive : (version ≡ 0 → ⊥) = λ e. T-not (eqb version 0) some (rw e tt) in
-    let low = nltb→le 2 version few in
-    by-cases (ℕ-discrete version 1) inl (λ other. inr (omega arith))
-
--- and with neither the file is refused by 3
-pub opens-other : (mark s : List ℕ) → 7 ≤ length s → marked mark s ≡ true → (u16At s 3 ≡ 1 → ⊥) → (u16At s 3 ≡ 2 → ⊥)
-    → readOpening mark 2 s ≡ refuses 3 []
-unfolding readOpening
-opens-other mark s long stands not-1 not-2 = rw (le-ltb (length s) 7 long, stands, outside) refl
-  where
-    outside : versionOutside 2 s ≡ true
-    outside = by-cases (ℕ-discrete (u16At s 3) 0)
-        (λ (e : u16At s 3 ≡ 0). rw e refl)
-        (λ some. rw (ne-eqb (u16At s 3) 0 some, lt-ltb 2 (u16At s 3) (omega arith)) refl)
-
--- of one, it is that
-pub opened-first : {mark s : List ℕ} → Opened mark 1 s → u16At s 3 ≡ 1
-opened-first {mark} {s} opened =
-    let version : ℕ = u16At s 3 in
-    let (some, few) = neither-of-or (eqb version 0) (ltb 1 version) (opened .version-stands) in
-    let positive : (version ≡ 0 → ⊥) = λ e. T-not (eqb version 0) some (rw e tt) in
-    omega (arith, nltb→le 1 version few)
 
 -- the costs of the calls below j are within the range
 abbrev CostsWithin : List ℕ → ℕ → ℕ → Type 0
@@ -142,3 +112,7 @@ row-read-not-refused {row} read (bit-outside {j} h outside set) =
 row-read-not-refused read (costs-cut h below short) = omega (arith, read .costs-whole)
 row-read-not-refused read (cost-too-high {j} below whole lower h set high) =
     true≢false (sym high ∙ read .costs-within j h set)
+
+-- a row that says what a read one says passes
+pub row-passes : {row : List ℕ} {version calls : ℕ} (lot : ℕ) → RowRead row version calls → readRow row version lot calls ≡ gives tt
+row-passes {row} {version} {calls} lot read = passes-exactly (row-says row version lot calls) (λ read k vs. row-read-not-refused read) .1 read

@@ -2,7 +2,7 @@
 -- are GREEDY's. What holds of every order that passes is proved here: by the theorems on Monge sequences its runs are Full exactly when
 -- some allocation meets everything, Covered or Full exactly when one meets every call, and no allocation has more units, or costs less
 -- where it meets everything.
-use mathlib.Core.Path.{_≡_, refl, ap}
+use mathlib.Core.Path.{_≡_, refl}
 use mathlib.Core.Logic.{_⊎_, inl, inr, Iff·trans, Iff·symm}
 use mathlib.Core.List.{List, []}
 use Prim.Native.Nat.{ℕ, _*_, _≤_, _<_}
@@ -28,13 +28,10 @@ use Rattle.specification.specs.Amounts.{readAmounts, lotAmount, callAmou
 use Rattle.specification.specs.OrderFile.{orderPairs}
 use Rattle.specification.specs.Check.{checkOrder}
 use Rattle.specification.specs.Run.{greedyOn, outcome, flowOf, flowTooShort, runOrder, runFlow}
-use Rattle.specification.specs.Demands.{Passing, Ran, Best, ByPassing}
+use Rattle.specification.specs.Demands.{Passing, Ran, BestOn, ByPassing}
 use Rattle.specification.proofs.Replies.{
   Says,
   giving,
-  UpToOr21,
-  allow-more,
-  allow-21,
   not-both,
   said-of-given,
   said-of-refused,
@@ -45,9 +42,8 @@ use Rattle.specification.proofs.Replies.{
 }
 use Rattle.specification.proofs.Books.{BookRead, book-read, book-lifts, book-monge, book-good}
 use Rattle.specification.proofs.AmountsFiles.{AmountsRead, AmountsOrBookRefused, amounts-say}
-use Rattle.specification.proofs.Lines.{amounts-in-table}
-use Rattle.specification.proofs.Checks.{CheckRefused, check-says, check-in-table, check-passes}
-use Rattle.specification.proofs.Verdicts.{full-iff-spent, covered-iff, short-iff, verdicts-of}
+use Rattle.specification.proofs.Checks.{CheckRefused, check-says, check-passes}
+use Rattle.specification.proofs.Verdicts.{full-iff-spent, covered-iff, short-iff, best-of}
 use Rattle.specification.proofs.Flows.{length-flowOf, flow-at, flow-kept, units-over-flow, cost-over-flow}
 
 pub data RunRefused (book order amounts flow : List ℕ) : ℕ → List ℕ → Type 0 where
@@ -57,12 +53,6 @@ pub data RunRefused (book order amounts flow : List ℕ) : ℕ → List ℕ → 
       → RunRefused book order amounts flow k vs
   flow-too-short : {n : Size} → Passing book order → AmountsRead n amounts → length flow < problemOf book .lots * problemOf book .calls
       → RunRefused book order amounts flow 17 []
-
--- each is a line of the table
-pub run-in-table : {book order amounts flow : List ℕ} {k : ℕ} {vs : List ℕ} → RunRefused book order amounts flow k vs → UpToOr21 17 k vs
-run-in-table (of-check q e) = allow-21 (omega arith) (check-in-table q)
-run-in-table (of-amounts passing q e) = allow-more (omega arith) (amounts-in-table q)
-run-in-table (flow-too-short passing read h) = ((refusal.BufferTooShort, refl, refl), inl (omega arith))
 
 -- the outcome is GREEDY's, the order passes, the amounts are read, and the flow buffer is long enough
 pub record RunGave (book order amounts flow : List ℕ) (o : Outcome) : Type 0 where
@@ -78,7 +68,6 @@ ran-of P c {a} {b} {s} kept flow long = record {
   flow = flow-at P _ flow;
   allocation = kept-allocation kept;
   kept = flow-kept P _ flow;
-  as-many = length-flowOf P _ flow long;
   its-units = refl;
   its-cost = refl;
   units-of-flow = units-over-flow P _ flow;
@@ -137,27 +126,24 @@ module _ (book order : List ℕ) (passing : Passing book order) where
   monge = book-monge book (passing .readable) (orderPairs order) .0 (passing .monge)
 
   -- the outcome of GREEDY by it, on the amounts of a file
-  passing-best : (amounts : List ℕ) → Best book amounts (outcome (problemOf book) (costsOf book) (greedyOn book (orderPairs order) amounts))
+  passing-best : (amounts : List ℕ) → BestOn book amounts (outcome (problemOf book) (costsOf book) (greedyOn book (orderPairs order) amounts))
   passing-best amounts =
       let by : State = greedyOn book (orderPairs order) amounts in
       let (a, b) : (ℕ → ℕ) × (ℕ → ℕ) = (lotAmount amounts, callAmount book amounts) in
-      record {
-        verdicts = verdicts-of book amounts by
-            (greedy-spends-iff (passing .each-once) monge a b)
-            (greedy-covers-iff (passing .each-once) monge a b);
-        least-cost = λ x m. signed-least-cost lifts (passing .each-once) monge a b m .1;
-        greatest-units = λ x h. greedy-most-units (passing .each-once) monge a b h;
-      }
+      best-of (problemOf book) (costsOf book) a b by
+      (greedy-spends-iff (passing .each-once) monge a b)
+      (greedy-covers-iff (passing .each-once) monge a b)
+      (λ x m. signed-least-cost lifts (passing .each-once) monge a b m .1)
+      (λ x h. greedy-most-units (passing .each-once) monge a b h)
+
+  pub passing-run-best : (amounts flow : List ℕ) (o : Outcome) → runOrder book order amounts flow ≡ gives o → BestOn book amounts o
+  passing-run-best amounts flow o e = rw (outcome-is book order amounts flow o e) (passing-best amounts)
 
   pub by-passing : ByPassing book order
   by-passing = record {
     good = (passing .each-once, book-good book (passing .readable) _ _ .1 (good-of-monge (passing .each-once) monge _));
-    most-units = λ a b within x h. greedy-most-units (passing .each-once) monge a b h;
+    most-units = λ a b x h. greedy-most-units (passing .each-once) monge a b h;
     refused-only = λ amounts flow k vs e. of-run (said-of-refused (run-says book order amounts flow) k vs e);
-    units-and-cost = λ amounts flow o e.
-        let is = outcome-is book order amounts flow o e in
-        (ap (λ r. r .units) is, ap (λ r. r .cost) is);
-    best = λ amounts flow o e. rw (outcome-is book order amounts flow o e) (passing-best amounts);
   }
     where
       of-run : {amounts flow : List ℕ} {k : ℕ} {vs : List ℕ} → RunRefused book order amounts flow k vs

@@ -20,7 +20,8 @@ use Rattle.specification.specs.Run.{allZero, verdictBy, outcome, flowOf,
 use Rattle.specification.specs.Find.{foundToRun, findAndRun, findAndRunFlow}
 use Rattle.specification.specs.Idle.{enlarged, foundToRunIdle, findAndRunIdle, findAndRunIdleFlow}
 use Rattle.specification.specs.Panel.{readPanel, findAndRunPanel, findAndRunPanelFlow}
-use Rattle.specification.specs.Reserves.{SameAmounts, SameRuns}
+use Rattle.specification.specs.Entry.{Run, byOrder, byFound, idle, panel, runReply, runLeaves}
+use Rattle.specification.specs.Reserves.{SameAmounts}
 use Rattle.specification.proofs.Replies.{Says, by-reply}
 use Rattle.specification.proofs.Checks.{check-says}
 use Rattle.specification.proofs.FindRuns.{found-to-run-says}
@@ -86,7 +87,7 @@ module _ (book s t flow : List ℕ) (same : SameAmounts book s t) where
   find-and-run-same : (findAndRun book s flow ≡ findAndRun book t flow) × (findAndRunFlow book s flow ≡ findAndRunFlow book t flow)
   unfolding findAndRun findAndRunFlow
   find-and-run-same = rw found-same (found-run-same (problemOf book) (costsOf book) flow (found-to-run-says book t flow) _ _
-      (λ S (found, _, _). greedy-agreeing (find-is-order (problemOf book) S found) same-at))
+      (λ S (is-found, _, _). greedy-agreeing (find-is-order (problemOf book) S is-found) same-at))
 
   idle-same : (findAndRunIdle book s flow ≡ findAndRunIdle book t flow) × (findAndRunIdleFlow book s flow ≡ findAndRunIdleFlow book t flow)
   unfolding findAndRunIdle findAndRunIdleFlow
@@ -102,10 +103,9 @@ module _ (book s t flow : List ℕ) (same : SameAmounts book s t) where
   )
 
 -- so every run replies and writes the same
-pub same-runs : (book s t flow : List ℕ) → SameAmounts book s t → SameRuns book s t flow
-same-runs book s t flow same = record {
-  run = run-same book s t flow same;
-  find-and-run = find-and-run-same book s t flow same;
-  find-and-run-idle = idle-same book s t flow same;
-  find-and-run-panel = panel-same book s t flow same;
-}
+pub same-runs : (run : Run) (book s t flow : List ℕ) → SameAmounts book s t
+    → (runReply run book s flow ≡ runReply run book t flow) × (runLeaves run book s flow ≡ runLeaves run book t flow)
+same-runs (byOrder order) book s t flow same = run-same book s t flow same order
+same-runs byFound book s t flow same = find-and-run-same book s t flow same
+same-runs idle book s t flow same = idle-same book s t flow same
+same-runs panel book s t flow same = panel-same book s t flow same

@@ -3,19 +3,19 @@
 use mathlib.Core.Path.{_≡_, refl, sym}
 use mathlib.Core.Logic.{_⊎_, inl, inr, ⊎-elim, _↔_, Iff·trans}
 use mathlib.Core.Bool.{Bool, true, false}
-use mathlib.Core.List.{List}
-use Prim.Native.Nat.{ℕ, zero, suc, _<_}
+use Prim.Native.Nat.{ℕ, zero, suc, _≤_, _<_}
 use native.Mathlib.Omega.{arith}
 use lib.Dec.{T, eqb, eqb→eq}
-use Rattle.transport.specs.Problem.{Problem, Meets, MeetsCalls}
+use lib.IntN.{ℤ}
+use lib.Signed.{_≤ℤ_}
+use Rattle.transport.specs.Problem.{Problem, units, Allocation, Meets, MeetsCalls}
 use Rattle.transport.specs.Greedy.{State}
+use Rattle.transport.specs.Signed.{signedCost}
 use Rattle.transport.proofs.Laws.Searches.{every-says, every-of, every-fails}
 use Rattle.transport.proofs.Greedy.Given.{Spent, NoneLacks}
 use Rattle.specification.specs.Reply.{full, covered, short}
-use Rattle.specification.specs.Book.{problemOf, costsOf}
-use Rattle.specification.specs.Amounts.{lotAmount, callAmount}
 use Rattle.specification.specs.Run.{allZero, verdictBy, verdictOf, outcome}
-use Rattle.specification.specs.Demands.{Verdicts}
+use Rattle.specification.specs.Demands.{Best}
 
 -- no two verdicts are the same
 full-not-covered : full ≡ covered → ⊥
@@ -94,12 +94,14 @@ module _ (P : Problem) (s : State) where
   met-iff-none-lacks : ((verdictOf P s ≡ full) ⊎ (verdictOf P s ≡ covered)) ↔ NoneLacks P s
   met-iff-none-lacks = Iff·trans (tests .met-is) (all-zero-iff (P .calls) (s .lacks))
 
--- so the verdict says of the allocations of a book and its amounts what the state that leaves nothing, or lacks nothing, does
-pub verdicts-of : (book amounts : List ℕ) (s : State)
-    → Spent (problemOf book) s ↔ ((x : ℕ → ℕ → ℕ) × Meets (problemOf book) (lotAmount amounts) (callAmount book amounts) x)
-    → NoneLacks (problemOf book) s ↔ ((x : ℕ → ℕ → ℕ) × MeetsCalls (problemOf book) (lotAmount amounts) (callAmount book amounts) x)
-    → Verdicts book amounts (outcome (problemOf book) (costsOf book) s)
-verdicts-of book amounts s spends covers = record {
-  full-iff = Iff·trans (full-iff-spent (problemOf book) s) spends;
-  met-iff = Iff·trans (met-iff-none-lacks (problemOf book) s) covers;
+-- so the verdict says of the allocations what the state that leaves nothing, or lacks nothing, does
+pub best-of : (P : Problem) (c : ℕ → ℕ → ℤ) (a b : ℕ → ℕ) (s : State)
+    → Spent P s ↔ ((x : ℕ → ℕ → ℕ) × Meets P a b x) → NoneLacks P s ↔ ((x : ℕ → ℕ → ℕ) × MeetsCalls P a b x)
+    → ((x : ℕ → ℕ → ℕ) → Meets P a b x → signedCost P c (s .given) ≤ℤ signedCost P c x)
+    → ((x : ℕ → ℕ → ℕ) → Allocation P a b x → units P x ≤ units P (s .given)) → Best P c a b (outcome P c s)
+best-of P c a b s spends covers least most = record {
+  full-iff = Iff·trans (full-iff-spent P s) spends;
+  met-iff = Iff·trans (met-iff-none-lacks P s) covers;
+  least-cost = least;
+  greatest-units = most;
 }

@@ -1,5 +1,6 @@
 -- Request 5 (document 02): a desk with no lots yet, or with no calls. No definition has a case of its own for it: where a list may be empty,
--- sums and orders are those of the empty list. What is promised beside the demands, which hold of these books as of all.
+-- sums and orders are those of the empty list. "Amounts may have the same zero counts": when they are read, and when such a book is refused by 4,
+-- 5, 6 or 8 and its order by 9, is in `Refused`. What is promised beside the demands, which hold of these books as of all.
 use mathlib.Core.Path.{_≡_}
 use mathlib.Core.Logic.{_⊎_, _↔_}
 use mathlib.Core.Bool.{cond}
@@ -8,8 +9,8 @@ use Prim.Native.Nat.{ℕ, _+_, _*_, _≤_, _<_}
 use lib.Dec.{eqb}
 use lib.ListN.{length, take, drop}
 use lib.IntN.{pos}
-use Rattle.specification.specs.Reply.{gives, refuses, Size, Outcome, full, covered, short}
-use Rattle.specification.specs.Bytes.{byteAt, u32At, bookMark, amountsMark, readOpening}
+use Rattle.specification.specs.Reply.{gives, Size, Outcome, full, covered, short}
+use Rattle.specification.specs.Bytes.{u32At, bookMark, readOpening}
 use Rattle.specification.specs.Book.{bookLots, bookCalls, readBook, lotCosts, outside, pairCost}
 use Rattle.specification.specs.Amounts.{readAmounts}
 use Rattle.specification.specs.OrderFile.{orderCount, orderFile}
@@ -19,7 +20,6 @@ use Rattle.specification.specs.Find.{findOrder, findBuffer, findAndRun, 
 use Rattle.specification.specs.Idle.{lotsTotal, callsTotal, findAndRunIdle, findAndRunIdleFlow}
 use Rattle.specification.specs.Text.{decimal, line, verdictWord, bookMost, amountsMost, printed}
 use Rattle.specification.specs.Demands.{OrderShaped}
-use Rattle.specification.specs.Reserves.{AmountsOf}
 
 -- "n or m equal to 0"
 abbrev pub Empty : ℕ → ℕ → Type 0
@@ -57,40 +57,20 @@ pub record Request5 : Type 0 where
   pub reads : (book : List ℕ) → EmptyOpening book
       → (readBook book ≡ gives (record { lots = bookLots book; calls = bookCalls book }))
       ↔ (NoBits book (bookLots book) × (length book ≡ 7 + 4 * bookLots book))
-  -- else, lot by lot, 6 where the word is cut, 5 with the lot where it is not 0, and 8 for what follows the last
-  pub refused-6 : (book : List ℕ) → EmptyOpening book → (i : ℕ) → i < bookLots book → NoBits book i
-      → length book < 7 + 4 * i + 4 → readBook book ≡ refuses 6 []
-  pub refused-5 : (book : List ℕ) → EmptyOpening book → (i : ℕ) → i < bookLots book → NoBits book i
-      → 7 + 4 * i + 4 ≤ length book → (u32At book (7 + 4 * i) ≡ 0 → ⊥) → readBook book ≡ refuses 5 (i ∷ [])
-  pub refused-8 : (book : List ℕ) → EmptyOpening book → NoBits book (bookLots book)
-      → 7 + 4 * bookLots book < length book → readBook book ≡ refuses 8 []
-  -- "4 is only for counts above 32"
-  pub only-4 : (book vs : List ℕ) → readBook book ≡ refuses 4 vs → (32 < bookLots book) ⊎ (32 < bookCalls book)
-  pub refused-4 : (book : List ℕ) → readOpening bookMark 2 book ≡ gives tt
-      → (32 < bookLots book) ⊎ (32 < bookCalls book) → readBook book ≡ refuses 4 []
   -- no lot has costs, and no pair is in the book
   pub lot-costs : (book : List ℕ) (n : Size) → EmptyDesk book n → (i : ℕ) → lotCosts book i ≡ []
   pub pair-cost : (book : List ℕ) (n : Size) → EmptyDesk book n → (i j : ℕ) → pairCost book i j ≡ gives outside
   -- "Its order has no pairs": an order file that counts none, and so has 7 bytes, passes the check, and no other,
   pub passes : (book order : List ℕ) (n : Size) → EmptyDesk book n → (k : ℕ)
       → (checkOrder book order ≡ gives k) ↔ ((k ≡ 0) × OrderShaped order × (orderCount order ≡ 0))
-  -- any pair listed is 9, at the first place,
-  pub listed : (book order : List ℕ) (n : Size) → EmptyDesk book n → OrderShaped order → 0 < orderCount order
-      → checkOrder book order ≡ refuses 9 (0 ∷ [])
   -- and the finder writes the one that passes
   pub finds : (book buffer : List ℕ) (n : Size) → EmptyDesk book n → 7 ≤ length buffer
       → (findOrder book buffer ≡ gives 7) × (findBuffer book buffer ≡ orderFile [] ++ drop 7 buffer)
-  pub finds-17 : (book buffer : List ℕ) (n : Size) → EmptyDesk book n → length buffer < 7 → findOrder book buffer ≡ refuses 17 []
-  -- "Amounts may have the same zero counts": they are read as with every book
-  pub amounts : (book amounts : List ℕ) (n : Size) → readBook book ≡ gives n → (readAmounts book amounts ≡ gives n) ↔ AmountsOf n amounts
-  -- and 15 where a count differs
-  pub amounts-15 : (book amounts : List ℕ) (n : Size) → readBook book ≡ gives n → readOpening amountsMark 2 amounts ≡ gives tt
-      → ((byteAt amounts 5 ≡ n .lots) × (byteAt amounts 6 ≡ n .calls) → ⊥) → readAmounts book amounts ≡ refuses 15 []
-  -- every run of such a desk is accepted, with a flow buffer of any length, and writes nothing:
+  -- a run of such a desk is accepted, with a flow buffer of any length, and writes nothing:
   -- by an order that passes,
   pub run : (book order amounts flow : List ℕ) (n : Size) (k : ℕ) → EmptyAmounts book amounts n → checkOrder book order ≡ gives k
       → (runOrder book order amounts flow ≡ gives (nothingPlaced book amounts)) × (runFlow book order amounts flow ≡ flow)
-  -- in one call,
+  -- in one call, and so for the ticket panel if 20 does not apply (`Request6`),
   pub find-and-run : (book amounts flow : List ℕ) (n : Size) → EmptyAmounts book amounts n
       → (findAndRun book amounts flow ≡ gives (nothingPlaced book amounts)) × (findAndRunFlow book amounts flow ≡ flow)
   -- and with an idle call, if neither 18 nor 19 applies

@@ -1,7 +1,7 @@
 -- The printing program's text (document 01, "The printing program").
 use mathlib.Core.List.{List, [], _∷_, _++_}
 use mathlib.Core.Bool.{true, false, cond}
-use Prim.Native.Nat.{ℕ, zero, suc, _+_, _*_, _/_, _%_}
+use Prim.Native.Nat.{ℕ, zero, suc, _+_, _*_, _-_, _/_, _%_}
 use lib.ListN.{take, replicate, getD}
 use lib.Dec.{ltb, eqb}
 use lib.IntN.{ℤ, pos, negsuc}
@@ -19,6 +19,11 @@ digits (suc most) n = elim (ltb n 10) [ true ↦ (48 + n) ∷ [] | false ↦ dig
 -- "Decimal": no number printed has more than 17 digits
 abbrev pub decimal : ℕ → List ℕ
 decimal n = digits 20 n
+
+-- the number that digits spell, read from the left, n being what stands before them
+unfoldable pub readDigits : ℕ → List ℕ → ℕ
+readDigits n [] = n
+readDigits n (d ∷ more) = readDigits (10 * n + (d - 48)) more
 
 -- "a cost below zero prints with a leading minus"
 abbrev pub decimalℤ : ℤ → List ℕ

@@ -91,7 +91,7 @@ module _ {ranked : Bool} {slacks names ranks eligible lefts lines nears fars rai
     holder {k} {p} named low = rw named (t .left .lined .column-of j p (own-few t .1) (h .on-column p (low .is-in)))
 
     -- but those below the pair's number
-    pub to-ask-from : {passed : List ℕ} {start below from : ℕ} → Passed slacks names lefts passed → start ≡ entry passed i j → Below lots start below
+    pub to-ask-from : {passed : List ℕ} {start below from : ℕ} → Passed slacks names lefts passed → start ≤ entry passed i j → Below lots start below
         → Minus lots below from → ToAsk slacks ranks lefts lines i j from
     to-ask-from {passed} {start} g e b f = record {
       passed = λ k held off. let (hi, hj) = own-few t in

@@ -2,7 +2,7 @@
 -- the low half is that it does not fit with the last lot of its call at the first call of its lot, and the high half with the first lot at
 -- the last call. Without ranks it is hindered in the low half, and what hinders it may be anywhere.
 use mathlib.Core.Path.{_≡_}
-use mathlib.Core.Bool.{Bool, true, false, _||_}
+use mathlib.Core.Bool.{Bool, true, false, cond, not, _&&_, _||_}
 use mathlib.Core.List.{List}
 use Prim.Native.Nat.{ℕ, _+_, _<_}
 use lib.ListN.{length, getD}
@@ -11,19 +11,19 @@ use Rattle.specification.specs.Book.{bit}
 use Rattle.book.specs.Table.{entry}
 use Rattle.slacks.specs.Slacks.{bySlacks, Slacks, Eligible}
 use Rattle.words.specs.Lefts.{isLeft}
-use Rattle.ranks.specs.Numbered.{Numbered, Plain}
+use Rattle.ranks.specs.Numbered.{Numbered, Plain, Filled}
 use Rattle.lines.specs.Lines.{Lined, Ended}
 use Rattle.trial.specs.Testing.{LetsPass, Passes, Hinders, Raised}
 use Rattle.trial.specs.declared.Trial.{Trial}
 use Rattle.trial.specs.declared.Trial.the-variants.{Free, Hindered}
 
--- slacks of n lots and m calls, with the words of the eligible calls, and ranks: by them they are Monge, if so said, or the ranks are the numbers
+-- slacks of n lots and m calls, with the words of the eligible calls, and ranks, by which they are Monge, if so said, and else the own numbers
 pub record Table (ranked : Bool) (slacks : List ℕ) (n m : ℕ) (names ranks eligible : List ℕ) : Type 0 where
   pub slacks-are : Slacks slacks n m
   pub eligible-are : Eligible slacks n m eligible
   pub numbered : Numbered n m names ranks
   pub monge : ranked ≡ true → Ranked (bySlacks slacks n m) (λ i. getD ranks i 0) (λ j. getD ranks (32 + j) 0)
-  pub plain : ranked ≡ false → Plain names × Plain ranks
+  pub plain : ranked ≡ false → Plain ranks
 
 -- the same, of some lots and calls
 pub record Tabled (ranked : Bool) (slacks names ranks eligible : List ℕ) : Type 0 where
@@ -31,12 +31,13 @@ pub record Tabled (ranked : Bool) (slacks names ranks eligible : List ℕ) : Typ
   pub calls : ℕ
   pub table : Table ranked slacks lots calls names ranks eligible
 
--- what is left, in words, by lines with their ends, and by raised slacks where there are no ranks
+-- what is left, in words, by lines with their ends, and by raised slacks; where there are ranks, the costs stand in their place, with gaps filled
 pub record Left (ranked : Bool) (slacks names ranks eligible lefts lines nears fars raised : List ℕ) : Type 0 where
   pub among : (i j : ℕ) → isLeft lefts i j ≡ true → isLeft eligible i j ≡ true
   pub lined : Lined names ranks lefts lines
   pub ended : Ended names lines nears fars
   pub raised-is : ranked ≡ false → Raised slacks lefts raised
+  pub costs-are : ranked ≡ true → Filled slacks raised
   pub lefts-long : length lefts ≡ 32
   pub raised-long : length raised ≡ 1024
 
@@ -57,6 +58,10 @@ pub record Halves (ranked : Bool) (slacks lefts nears fars : List ℕ) (i j : �
   pub low-told : low ≡ true → HinderedIn ranked slacks lefts nears fars i j
   pub high-told : high ≡ true → HinderedIn ranked slacks lefts fars nears i j
   pub told : (low || high) ≡ true
+
+-- what is told by the tests at the two corners
+abbrev pub cornersTell : Bool → Bool → Trial
+cornersTell low high = cond (low && high) Free (Hindered (not low) (not high))
 
 -- what a trial of (i, j) answers
 abbrev pub TrialOf : Bool → List ℕ → List ℕ → List ℕ → List ℕ → ℕ → ℕ → Trial → Type 0

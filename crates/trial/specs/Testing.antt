@@ -3,7 +3,7 @@ use mathlib.Core.Path.{_≡_}
 use mathlib.Core.Bool.{Bool, true, false, cond}
 use mathlib.Core.List.{List}
 use Prim.Native.Nat.{ℕ, suc, _+_, _*_, _≤_, _<_}
-use lib.Dec.{eqb, leb}
+use lib.Dec.{eqb}
 use lib.ListN.{getD}
 use Rattle.specification.specs.Costs.{costTop}
 use Rattle.book.specs.Table.{entry}
@@ -15,10 +15,6 @@ use Rattle.words.specs.Lefts.{isLeft}
 pub record Fitting (slacks : List ℕ) (i j k l : ℕ) : Type 0 where
   pub has-slack : remains slacks k l ≡ true
   pub no-dearer : entry slacks i l + entry slacks k j ≤ entry slacks i j + entry slacks k l
-
--- the second, as it is tested
-abbrev pub fitsBy : List ℕ → ℕ → ℕ → ℕ → ℕ → Bool
-fitsBy slacks i j k l = leb (entry slacks i l + entry slacks k j) (entry slacks i j + entry slacks k l)
 
 -- lot k lets (i, j) pass
 pub record LetsPass (slacks lefts : List ℕ) (i j k : ℕ) : Type 0 where

@@ -2,6 +2,7 @@
 // calls; lots that let it pass once do so for good, and are not asked again.
 use files::wide;
 use ranks::LINES;
+use ranks::fits;
 use slacks::PAIRS;
 use slacks::SIDE;
 use slacks::SLACK_MOST;
@@ -15,11 +16,12 @@ use words::without;
 ghost use mathlib.Core.Path.{_≡_};
 ghost use mathlib.Core.Bool.{true, false};
 ghost use Prim.Native.Nat.{ℕ, suc, _+_, _*_, _≤_, _<_};
-ghost use lib.ListN.{length, getD, replicate};
+ghost use lib.ListN.{length, getD};
 ghost use Rattle.specification.specs.Costs.{costTop};
 ghost use Rattle.slacks.specs.Slacks.{Capped};
-ghost use Rattle.trial.specs.Testing.{fitsBy, raisedOf, Misfits};
-ghost use Rattle.trial.specs.Left.{Trying, TrialOf, Passed};
+ghost use Rattle.ranks.specs.Numbered.{Filled, Low, fitsBy};
+ghost use Rattle.trial.specs.Testing.{raisedOf, Misfits};
+ghost use Rattle.trial.specs.Left.{cornersTell, Trying, TrialOf, Passed};
 
 // What is told of a pair: that it is free, or whether it is hindered in the low half and in the high half.
 pub enum Trial {
@@ -27,11 +29,11 @@ pub enum Trial {
     Hindered(bool, bool),
 }
 
-// The raised slacks of all pairs, in an array of zeros, unless there are ranks.
+// The raised slacks of all pairs, in place of what the array holds, unless there are ranks: then it holds the costs, gaps filled.
 pub fn raise(slacks: &[u32; PAIRS], ranked: bool, raised: &mut [u32; PAIRS])
-    requires { ⌜ Capped (now slacks) × (now raised ≡ replicate 1024 0) ⌝ }
+    requires { ⌜ Capped (now slacks) × (length (now raised) ≡ 1024) × (ranked ≡ true → Filled (now slacks) (now raised)) ⌝ }
     ensures { λ r. ⌜ (ranked ≡ false → (x : ℕ) → x < 1024 → getD (now (raised .exit)) x 0 ≡ raisedOf (getD (now (slacks .entry)) x 0)) ⌝ }
-    ensures { λ r. ⌜ length (now (raised .exit)) ≡ 1024 ⌝ }
+    ensures { λ r. ⌜ (length (now (raised .exit)) ≡ 1024) × (ranked ≡ true → Filled (now (slacks .entry)) (now (raised .exit))) ⌝ }
 {
     if ranked {
         return;
@@ -40,17 +42,6 @@ pub fn raise(slacks: &[u32; PAIRS], ranked: bool, raised: &mut [u32; PAIRS])
         let slack = slacks[x];
         raised[x] = if slack == 0 { 0 } else { slack + SLACK_MOST };
     }
-}
-
-// Whether the pair fits with the corner, lot k and call l, by their slacks.
-fn fits(slacks: &[u32; PAIRS], lot: Lot, call: Call, k: u8, l: u8) -> bool
-    requires { ⌜ (lot .0 < 32) × (call .0 < 32) × (k < 32) × (l < 32) × Capped (now slacks) ⌝ }
-    ensures { λ r. ⌜ r ≡ fitsBy (now (slacks .entry)) (lot .0) (call .0) k l ⌝ }
-{
-    let other = k as usize;
-    let corner = l as usize;
-    entry_at(slacks, lot.0, corner) + entry_at(slacks, other, call.0)
-        <= entry_at(slacks, lot.0, call.0) + entry_at(slacks, other, corner)
 }
 
 // Whether the pair (i, j) does not fit with lot k at a call left to lot i. All calls are tried, so that there is no branch. The slack of (k, j) is
@@ -62,16 +53,45 @@ fn misfits(slacks: &[u32; PAIRS], raised: &[u32; PAIRS], lot: Lot, call: Call, o
     let i = lot.0;
     let j = call.0;
     let k = other.0;
-    let own = entry_at(slacks, i, j) + SLACK_MOST - entry_at(slacks, k, j);
+    let own = entry_at(slacks, Lot(i), Call(j)) + SLACK_MOST - entry_at(slacks, Lot(k), Call(j));
     let mut found = false;
     for l in 0..SIDE {
-        found = ((entry_at(slacks, k, l) + own) as i32) < (entry_at(raised, i, l) as i32) || found;
+        found = ((entry_at(slacks, Lot(k), Call(l)) + own) as i32)
+            < (entry_at(raised, Lot(i), Call(l)) as i32)
+            || found;
     }
     found
 }
 
-// Whether the pair, which is left, is free. By ranks: it fits with the last lot of its call at the first call of its lot, and with the first
-// lot at the last call. Else: it is the last of its lot, or no lot hinders it. The other lots of its call are asked by rank, from the one on
+// By ranks, whether the pair fits with the last lot of its call at the first call of its lot, and with the first lot at the last call.
+fn try_corners(
+    costs: &[u32; PAIRS],
+    nears: &[u8; LINES],
+    fars: &[u8; LINES],
+    lot: Lot,
+    call: Call,
+) -> Trial
+    requires { ⌜ (lot .0 < 32) × (call .0 < 32) × Low (now costs) ⌝ }
+    requires { ⌜ (getD (now nears) (lot .0) 0 < 32) × (getD (now fars) (lot .0) 0 < 32)
+        × (getD (now nears) (32 + call .0) 0 < 32) × (getD (now fars) (32 + call .0) 0 < 32) ⌝ }
+    ensures { λ r. ⌜ r ≡ cornersTell (fitsBy (now (costs .entry)) (lot .0) (call .0) (getD (now (fars .entry)) (32 + call .0) 0) (getD (now (nears .entry)) (lot .0) 0))
+        (fitsBy (now (costs .entry)) (lot .0) (call .0) (getD (now (nears .entry)) (32 + call .0) 0) (getD (now (fars .entry)) (lot .0) 0)) ⌝ }
+{
+    let i = lot.0;
+    let j = call.0;
+    let first = wide(nears[i]);
+    let last = wide(fars[i]);
+    let top = wide(nears[SIDE + j]);
+    let bottom = wide(fars[SIDE + j]);
+    let low = fits(costs, Lot(i), Call(j), Lot(bottom), Call(first));
+    let high = fits(costs, Lot(i), Call(j), Lot(top), Call(last));
+    if low && high {
+        return Trial::Free;
+    }
+    Trial::Hindered(!low, !high)
+}
+
+// Whether the pair, which is left, is free. By ranks two corners tell. Else: it is the last of its lot, or no lot hinders it. The other lots of its call are asked by rank, from the one on
 // that hindered it before. A lot hinders it that is not eligible for a call left to its lot, or with which it does not fit at one.
 pub fn try_pair(
     slacks: &[u32; PAIRS],
@@ -97,18 +117,13 @@ pub fn try_pair(
     let i = lot.0;
     let j = call.0;
     if ranked {
-        let low = fits(slacks, Lot(i), Call(j), fars[SIDE + j], nears[i]);
-        let high = fits(slacks, Lot(i), Call(j), nears[SIDE + j], fars[i]);
-        if low && high {
-            return Trial::Free;
-        }
-        return Trial::Hindered(!low, !high);
+        return try_corners(raised, nears, fars, Lot(i), Call(j));
     }
     if without(lefts[i], j) == 0 {
         return Trial::Free;
     }
     let others = without(lines[SIDE + j], wide(ranks[i]));
-    let mut lots = minus(others, below(others, wide(passed[SIDE * i + j])));
+    let mut lots = minus(others, below(others, wide(passed[SIDE * i + j]) % SIDE));
     while 0 < lots {
         let p = lowest(lots);
         let k = wide(names[p]);

@@ -5,7 +5,7 @@ use mathlib.Core.Bool.{true, false, and-true, and-false, true≢false}
 use mathlib.Core.List.{List}
 use Prim.Native.Nat.{ℕ, _<_}
 use native.Mathlib.Decide.{ℕ-discrete}
-use lib.ListN.{length, getD, set, length-set}
+use lib.ListN.{length, set, length-set}
 use lib.Seq.{getD-set-same, getD-set-other}
 use Rattle.transport.specs.Problem.{Problem}
 use Rattle.transport.specs.Greedy.{pair}
@@ -13,7 +13,6 @@ use Rattle.transport.specs.Finder.{without}
 use Rattle.transport.proofs.Laws.Tests.{T-true, T-false, same, same→eq, same-of-eq}
 use Rattle.transport.proofs.Laws.Sets.{Agree}
 use Rattle.specification.specs.Book.{bit}
-use Rattle.words.specs.Words.{Without}
 use Rattle.words.specs.Lefts.{isLeft, TakenFrom}
 
 -- the pair or another
@@ -23,20 +22,18 @@ same-pair a l i j = by-cases (ℕ-discrete a i)
     (λ y. inr (λ both. y (both .0)))
 
 -- a store of the lot's word without the call
-pub taken-set : (i j w : ℕ) (before : List ℕ) → i < length before → Without (getD before i 0) j w → TakenFrom i j before (set before i w)
-taken-set i j w before h less = record {
-  own = subst⁻¹ (Without (getD before i 0) j) (getD-set-same before i w 0 h) less;
-  others = λ k d. getD-set-other before i k w 0 d;
-  long = length-set before i w;
-}
+pub taken-set : {i j : ℕ} (w : ℕ) (before : List ℕ) → i < length before → bit w j ≡ false → ((l : ℕ) → (l ≡ j → ⊥) → bit w l ≡ isLeft before i l)
+    → TakenFrom i j before (set before i w)
+taken-set {i} w before h out kept = let own = getD-set-same before i w 0 h in
+    record { out = rw own out; kept = λ l d. rw own (kept l d); others = λ k d. getD-set-other before i k w 0 d; long = length-set before i w }
 
 module _ {i j : ℕ} {before after : List ℕ} (q : TakenFrom i j before after) where
   pub gone : (a l : ℕ) → (a ≡ i) × (l ≡ j) → isLeft after a l ≡ false
-  gone a l (y, z) = rw (y, z) (q .own .out)
+  gone a l (y, z) = rw (y, z) (q .out)
 
   pub stays : (a l : ℕ) → ((a ≡ i) × (l ≡ j) → ⊥) → isLeft after a l ≡ isLeft before a l
   stays a l d = by-cases (ℕ-discrete a i)
-      (λ y. subst⁻¹ (λ (g : ℕ). isLeft after g l ≡ isLeft before g l) y (q .own .others l (λ z. d (y, z))))
+      (λ y. subst⁻¹ (λ (g : ℕ). isLeft after g l ≡ isLeft before g l) y (q .kept l (λ z. d (y, z))))
       (λ y. ap (λ (w : ℕ). bit w l) (q .others a y))
 
   pub fewer : (a l : ℕ) → isLeft after a l ≡ true → isLeft before a l ≡ true

@@ -33,9 +33,7 @@ pub read-amounts-spec : {M : Type 1} → statement M
 read-amounts-spec =
     tie.close
     (tie.spec
-    (λ c κs. search needs)
-    (λ c. search needs)
-    (λ c. search needs)
+    (λ c κs. search needs) (λ c. search needs) (λ c. search needs)
     returns
     read-of-requires
     returns-2)

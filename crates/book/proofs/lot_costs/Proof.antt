@@ -76,10 +76,7 @@ pub lot-costs-spec : {M : Type 1} → statement M
 lot-costs-spec =
     tie.close
     (tie.spec
-    (λ c κs. search needs)
-    (λ c. search needs)
-    (λ c. search needs)
-    (λ c. search needs)
+    (λ c κs. search needs) (λ c. search needs) (λ c. search needs) (λ c. search needs)
     returns
     (λ c. search needs)
     returns-2
@@ -87,8 +84,7 @@ lot-costs-spec =
     (λ c. omega (arith, inside c))
     (λ c. omega (arith, inside c))
     (λ c. omega (arith, inside c))
-    (λ c. search needs)
-    (λ c κs. search needs)
+    (λ c. search needs) (λ c κs. search needs)
     (λ c. omega (arith, size-is c, inside (c .before .before)))
     (λ c. omega (arith, size-is c))
     (λ c. omega (arith, size-is c))

@@ -105,17 +105,14 @@ read-rows-spec =
     μ-loop
     (λ c κs. search needs)
     loop-holds
-    (λ c. search needs)
-    (λ c. search needs)
-    (λ c. search needs)
+    (λ c. search needs) (λ c. search needs) (λ c. search needs)
     (λ c κs. c .before .before .before .all-calls .ensures)
     (λ c. search needs)
     returns
     (λ c. search needs)
     (λ c κs. tt)
     (λ c. omega (arith, inside c))
-    (λ c. omega arith)
-    (λ c. omega arith)
+    (λ c. omega arith) (λ c. omega arith)
     loop-again
     returns-2
     returns-3)

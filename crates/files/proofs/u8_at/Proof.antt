@@ -12,6 +12,5 @@ pub u8-at-spec : {M : Type 1} → statement M
 u8-at-spec =
     tie.close
     (tie.spec
-    (λ c. search needs)
-    (λ c. search needs)
+    (λ c. search needs) (λ c. search needs)
     returns-2)

@@ -10,7 +10,7 @@ use Rattle.lines.proofs.column_of.Statement.{statement}
 use Rattle.lines.proofs.column_of.Tie as tie
 
 abbrev Inv-loop : tie.InvT-loop
-Inv-loop lefts call word₀ i₀ word i = (i ≤ 32) × Begins (λ x. isLeft lefts x call) i word
+Inv-loop lefts call word₀ i₀ word i = (i ≤ 32) × Begins (λ x. isLeft lefts x (call .0)) i word
 
 abbrev μ-loop : tie.MeasureT-loop
 μ-loop lefts call word₀ i₀ word i = 32 - i
@@ -30,11 +30,6 @@ column-of-spec =
     Inv-loop
     μ-loop
     (λ c. (omega arith, begins-none _))
-    (λ c. omega arith)
-    (λ c. omega arith)
-    (λ c κs. omega arith)
-    (λ c κs. omega arith)
-    (λ c. omega arith)
-    (λ c. omega arith)
+    (λ c. omega arith) (λ c. omega arith) (λ c κs. omega arith) (λ c κs. omega arith) (λ c. omega arith) (λ c. omega arith)
     loop-again
     returns)

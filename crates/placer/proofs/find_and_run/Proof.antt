@@ -57,10 +57,7 @@ pub find-and-run-spec : {M : Type 1} → statement M
 find-and-run-spec =
     tie.close
     (tie.spec
-    (λ c κs. search needs)
-    (λ c. search needs)
-    (λ c. search needs)
-    (λ c κs. search needs)
+    (λ c κs. search needs) (λ c. search needs) (λ c. search needs) (λ c κs. search needs)
     returns
     remaining-of-requires
     find-then-run-requires

@@ -122,10 +122,7 @@ pub find-and-run-idle-spec : {M : Type 1} → statement M
 find-and-run-idle-spec =
     tie.close
     (tie.spec
-    (λ c κs. search needs)
-    (λ c. search needs)
-    (λ c. search needs)
-    (λ c κs. search needs)
+    (λ c κs. search needs) (λ c. search needs) (λ c. search needs) (λ c κs. search needs)
     returns
     remaining-of-requires
     total-requires

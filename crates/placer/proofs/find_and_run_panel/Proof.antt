@@ -28,10 +28,7 @@ pub find-and-run-panel-spec : {M : Type 1} → statement M
 find-and-run-panel-spec =
     tie.close
     (tie.spec
-    (λ c κs. search needs)
-    (λ c. search needs)
-    (λ c. search needs)
-    (λ c κs. search needs)
+    (λ c κs. search needs) (λ c. search needs) (λ c. search needs) (λ c κs. search needs)
     returns
     find-and-run-within-requires
     (λ c. search needs)

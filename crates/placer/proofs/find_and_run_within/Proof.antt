@@ -63,10 +63,7 @@ pub find-and-run-within-spec : {M : Type 1} → statement M
 find-and-run-within-spec =
     tie.close
     (tie.spec
-    (λ c κs. search needs)
-    (λ c. search needs)
-    (λ c. search needs)
-    (λ c κs. search needs)
+    (λ c κs. search needs) (λ c. search needs) (λ c. search needs) (λ c κs. search needs)
     returns
     mul-if1
     returns-2

@@ -102,8 +102,7 @@ find-then-run-spec =
     returns
     (λ c. search needs)
     find-by-requires
-    (λ c. search needs)
-    (λ c. search needs)
+    (λ c. search needs) (λ c. search needs)
     returns-2
     mul-length
     add-length

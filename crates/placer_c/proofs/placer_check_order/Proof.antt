@@ -9,6 +9,5 @@ pub placer-check-order-spec : {M : Type 1} → statement M
 placer-check-order-spec =
     tie.close
     (tie.spec
-    (λ c κs. search needs)
-    (λ c κs. search needs)
+    (λ c κs. search needs) (λ c κs. search needs)
     (λ c. c .checked .ensures ∙ ap (answerOf number) (c .before .check-order .ensures)))

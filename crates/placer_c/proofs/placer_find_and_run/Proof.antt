@@ -9,7 +9,5 @@ pub placer-find-and-run-spec : {M : Type 1} → statement M
 placer-find-and-run-spec =
     tie.close
     (tie.spec
-    (λ c κs. search needs)
-    (λ c κs. search needs)
-    (λ c. search needs)
+    (λ c κs. search needs) (λ c κs. search needs) (λ c. search needs)
     (λ c. let reply = c .before .before .before .find-and-run in (c .placed .ensures ∙ ap (answerOf placed) (reply .ensures .0), reply .ensures .1)))

@@ -9,7 +9,5 @@ pub placer-find-order-spec : {M : Type 1} → statement M
 placer-find-order-spec =
     tie.close
     (tie.spec
-    (λ c κs. search needs)
-    (λ c κs. search needs)
-    (λ c. search needs)
+    (λ c κs. search needs) (λ c κs. search needs) (λ c. search needs)
     (λ c. let reply = c .before .before .before .find-order in (c .found .ensures ∙ ap (answerOf number) (reply .ensures .0), reply .ensures .1)))

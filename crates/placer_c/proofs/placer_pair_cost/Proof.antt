@@ -9,6 +9,5 @@ pub placer-pair-cost-spec : {M : Type 1} → statement M
 placer-pair-cost-spec =
     tie.close
     (tie.spec
-    (λ c κs. search needs)
-    (λ c κs. search needs)
+    (λ c κs. search needs) (λ c κs. search needs)
     (λ c. c .cost .ensures ∙ ap (answerOf costOf) (c .before .pair-cost .ensures)))

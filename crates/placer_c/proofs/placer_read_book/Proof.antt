@@ -9,6 +9,5 @@ pub placer-read-book-spec : {M : Type 1} → statement M
 placer-read-book-spec =
     tie.close
     (tie.spec
-    (λ c κs. search needs)
-    (λ c κs. search needs)
+    (λ c κs. search needs) (λ c κs. search needs)
     (λ c. c .counts .ensures ∙ ap (answerOf counts) (c .before .read-book .ensures)))

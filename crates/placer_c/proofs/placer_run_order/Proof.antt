@@ -9,7 +9,5 @@ pub placer-run-order-spec : {M : Type 1} → statement M
 placer-run-order-spec =
     tie.close
     (tie.spec
-    (λ c κs. search needs)
-    (λ c κs. search needs)
-    (λ c. search needs)
+    (λ c κs. search needs) (λ c κs. search needs) (λ c. search needs)
     (λ c. let reply = c .before .before .before .run-order in (c .placed .ensures ∙ ap (answerOf placed) (reply .ensures .0), reply .ensures .1)))

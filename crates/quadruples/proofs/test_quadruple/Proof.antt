@@ -48,8 +48,6 @@ test-quadruple-spec =
     (λ c κs. let inside = in-table (c .before .before) in look-up (c .before .before) (omega arith) (omega arith))
     (λ c. search needs)
     (λ c κs. let inside = in-table (c .before .before .before) in look-up (c .before .before .before) (omega arith) (omega arith))
-    (λ c. search needs)
-    (λ c. search needs)
-    (λ c. search needs)
+    (λ c. search needs) (λ c. search needs) (λ c. search needs)
     returns-2
     returns-3)

@@ -16,8 +16,7 @@ pub cost-in-spec : {M : Type 1} → statement M
 cost-in-spec =
     tie.close
     (tie.spec
-    (λ c κs. search needs)
-    (λ c κs. search needs)
+    (λ c κs. search needs) (λ c κs. search needs)
     (λ c. omega (arith, few c))
     (λ c. omega (arith, few c))
     (λ c κs. search needs)

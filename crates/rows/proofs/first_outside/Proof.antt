@@ -115,7 +115,6 @@ first-outside-spec =
     (λ c κs. search needs)
     returns
     (λ c. omega (arith, inside (c .before .before .before .before) (c .before .before .before .if1 .taken)))
-    (λ c. omega arith)
-    (λ c. omega arith)
+    (λ c. omega arith) (λ c. omega arith)
     loop-again
     returns-2)

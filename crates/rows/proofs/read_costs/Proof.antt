@@ -26,8 +26,7 @@ pub read-costs-spec : {M : Type 1} → statement M
 read-costs-spec =
     tie.close
     (tie.spec
-    (λ c κs. search needs)
-    (λ c κs. search needs)
+    (λ c κs. search needs) (λ c κs. search needs)
     (λ c κs. omega (arith, costs-are c))
     returns
     (λ c κs. search needs)

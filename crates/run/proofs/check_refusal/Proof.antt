@@ -7,7 +7,6 @@ pub check-refusal-spec : {M : Type 1} → statement M
 check-refusal-spec =
     tie.close
     (tie.spec
-    (λ c. search needs)
-    (λ c. search needs)
+    (λ c. search needs) (λ c. search needs)
     (λ c. rw (c .before .checked .given .1))
     (λ c. rw (c .enum-told .given .1)))

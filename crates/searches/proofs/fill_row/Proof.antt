@@ -8,16 +8,16 @@ use Rattle.searches.proofs.fill_row.Statement.{statement}
 use Rattle.searches.proofs.fill_row.Tie as tie
 
 abbrev Inv-loop : tie.InvT-loop
-Inv-loop book₀ lot at k₀ book k = (k ≤ 4) × (length book ≡ 4231)
+Inv-loop book₀ at lot k₀ book k = (k ≤ 4) × (length book ≡ 4231)
 
 abbrev μ-loop : tie.MeasureT-loop
-μ-loop book₀ lot at k₀ book k = 4 - k
+μ-loop book₀ at lot k₀ book k = 4 - k
 
 abbrev Inv-loop2 : tie.InvT-loop2
-Inv-loop2 book₀ lot at call₀ book call = (call ≤ 32) × (length book ≡ 4231)
+Inv-loop2 book₀ at lot call₀ book call = (call ≤ 32) × (length book ≡ 4231)
 
 abbrev μ-loop2 : tie.MeasureT-loop2
-μ-loop2 book₀ lot at call₀ book call = 32 - call
+μ-loop2 book₀ at lot call₀ book call = 32 - call
 
 loop-again : tie.Need-loop-again Inv-loop μ-loop Inv-loop2 μ-loop2
 loop-again c = (omega arith, simp length-set (c .before .loop .inv .1))
@@ -33,21 +33,9 @@ fill-row-spec =
     μ-loop
     Inv-loop2
     μ-loop2
-    (λ c. omega arith)
-    (λ c. omega arith)
-    (λ c. omega arith)
-    (λ c. omega arith)
-    (λ c. omega arith)
-    (λ c. omega arith)
-    (λ c. omega arith)
+    (λ c. omega arith) (λ c. omega arith) (λ c. omega arith) (λ c. omega arith) (λ c. omega arith)
     loop-again
-    (λ c. omega arith)
-    (λ c κs. search needs)
-    (λ c. omega arith)
-    (λ c. omega arith)
-    (λ c. omega arith)
-    (λ c. omega arith)
-    (λ c. omega arith)
+    (λ c. omega arith) (λ c κs. search needs) (λ c. omega arith) (λ c. omega arith) (λ c. omega arith) (λ c. omega arith) (λ c. omega arith)
     (λ c. omega arith)
     loop2-again
     (λ c. omega arith))

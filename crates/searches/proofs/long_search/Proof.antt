@@ -8,10 +8,10 @@ use Rattle.searches.proofs.long_search.Statement.{statement}
 use Rattle.searches.proofs.long_search.Tie as tie
 
 abbrev Inv-loop : tie.InvT-loop
-Inv-loop book₀ lot₀ book lot = (lot ≤ 32) × (length book ≡ 4231)
+Inv-loop first book₀ lot₀ book lot = (first ≤ lot) × (lot ≤ 32) × (length book ≡ 4231)
 
 abbrev μ-loop : tie.MeasureT-loop
-μ-loop book₀ lot₀ book lot = 32 - lot
+μ-loop first book₀ lot₀ book lot = 32 - lot
 
 pub long-search-spec : {M : Type 1} → statement M
 long-search-spec =
@@ -19,13 +19,6 @@ long-search-spec =
     (tie.spec
     Inv-loop
     μ-loop
-    (λ c. search needs)
-    (λ c. search needs)
-    (λ c. search needs)
-    (λ c κs. search needs)
-    (λ c. search needs)
-    (λ c κs. omega arith)
-    (λ c. omega arith)
-    (λ c. omega arith)
-    (λ c. omega arith)
+    (λ c. search needs) (λ c. search needs) (λ c. search needs) (λ c κs. search needs) (λ c. omega arith) (λ c. omega arith) (λ c. omega arith)
+    (λ c. omega arith) (λ c. omega arith) (λ c. omega arith) (λ c κs. omega arith) (λ c. omega arith) (λ c. omega arith) (λ c. omega arith)
     (λ c. search needs))

@@ -12,10 +12,7 @@ pub show-long-with-gap-spec : {M : Type 1} → statement M
 show-long-with-gap-spec =
     tie.close
     (tie.spec
-    (λ c κs. search needs)
-    (λ c. search needs)
-    (λ c. search needs)
+    (λ c κs. search needs) (λ c. search needs) (λ c. search needs)
     slice-aggregate-show-2
-    (λ c. search needs)
-    (λ c κs. search needs)
+    (λ c. search needs) (λ c κs. search needs)
     (λ c. search needs))

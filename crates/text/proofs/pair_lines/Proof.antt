@@ -66,11 +66,9 @@ pair-lines-spec =
     loop-holds
     (λ c. omega (arith, cell (c .before) .1))
     (λ c. omega (arith, cell (c .before) .1))
-    (λ c. omega arith)
-    (λ c. omega arith)
+    (λ c. omega arith) (λ c. omega arith)
     pair-line-requires
-    (λ c. omega arith)
-    (λ c. omega arith)
+    (λ c. omega arith) (λ c. omega arith)
     loop-again
     (λ c. omega arith)
     returns)

@@ -6,7 +6,7 @@ use native.Mathlib.Omega.{arith}
 use Rattle.transport.specs.Problem.{sum, units, totalCost}
 use Rattle.transport.specs.Greedy.{State, giveAll, greedy}
 use Rattle.transport.proofs.Greedy.Given.{NoneLacks}
-use Rattle.transport.proofs.Examples.{listed, book₇, order₇}
+use Rattle.transport.proofs.AllBooks.{listed, book₇, order₇}
 
 -- F7's order, with the amounts 2 0 of the lots and 1 0 of the calls
 abbrev run₈ : State

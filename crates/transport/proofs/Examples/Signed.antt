@@ -14,7 +14,7 @@ use Rattle.transport.specs.Finder.{every, first, takeFrom, find}
 use Rattle.transport.specs.Signed.{sumℤ, signedCost, Lifts}
 use Rattle.transport.proofs.Theorems.{finder-sound}
 use Rattle.transport.proofs.Theorems.Signed.{signed-monge-iff, signed-cheapest}
-use Rattle.transport.proofs.Examples.{listed, order₁, given₁}
+use Rattle.transport.proofs.AllBooks.{listed, order₁, given₁}
 
 -- the costs are 1 -2 / -3 5, and each is held with 1,000,000 added
 abbrev signed : ℕ → ℕ → ℤ

@@ -5,14 +5,14 @@
 use mathlib.Core.Path.{_≡_}
 use mathlib.Core.Logic.{_↔_}
 use mathlib.Core.Bool.{Bool, _&&_}
-use Prim.Native.Nat.{ℕ, _+_, _≤_, _<_}
+use Prim.Native.Nat.{ℕ, _≤_, _<_}
 use native.Mathlib.Decide.{decLe}
 use native.Mathlib.Omega.{arith}
 use lib.Dec.{T}
-use Rattle.transport.specs.Problem.{Problem}
+use Rattle.transport.specs.Problem.{Problem, Eligible}
 use Rattle.transport.specs.Finder.{fits, free}
 use Rattle.transport.proofs.Laws.Tests.{T-ext, and-says, and-of}
-use Rattle.transport.proofs.Laws.Sets.{Remains}
+use Rattle.transport.proofs.Laws.Sets.{Remains, Among}
 use Rattle.transport.proofs.Orders.Monge.{Fits}
 use Rattle.transport.proofs.Finder.Free.{Free, fits-says, fits-of, free-says, free-of}
 use Rattle.transport.proofs.Finder.Ranks.{Ranked, ranked-fits}
@@ -31,43 +31,41 @@ LotEnds P s rest i first last = Ends s (λ l. Remains P rest i l) first last
 abbrev pub CallEnds : Problem → (ℕ → ℕ) → (ℕ → ℕ → Bool) → ℕ → ℕ → ℕ → Type 0
 CallEnds P r rest j top bottom = Ends r (λ k. Remains P rest k j) top bottom
 
-module _ {P : Problem} {r s : ℕ → ℕ} (ranked : Ranked P r s) (rest : ℕ → ℕ → Bool) (i j first last top bottom : ℕ)
-    (row : LotEnds P s rest i first last) (column : CallEnds P r rest j top bottom) where
+module _ {P : Problem} {r s : ℕ → ℕ} (ranked : Ranked P r s) (rest : ℕ → ℕ → Bool) (among : Among P rest (P .admits))
+    (i j first last top bottom : ℕ) (row : LotEnds P s rest i first last) (column : CallEnds P r rest j top bottom) where
+  -- what remains is eligible
+  eligible : {k l : ℕ} → Remains P rest k l → Eligible P k l
+  eligible {k} {l} u = (u .0, u .1, among k l u)
+
   -- the two corners decide each other one: two narrower rectangles fill what the wide one has beyond that of (k, l)
-  no-dearer-inside : Fits P i j bottom first → Fits P i j top last → (k l : ℕ) → Remains P rest i l → Remains P rest k j
-      → Dec (r i ≤ r k) → Dec (s j ≤ s l) → P .cost i j + P .cost k l ≤ P .cost i l + P .cost k j
-  no-dearer-inside low high k l (hi, hl, il) (hk, hj, kj) (yes h) (yes g) = ranked-fits ranked i k j l hi hk hj hl h g
-  no-dearer-inside low high k l (hi, hl, il) (hk, hj, kj) (no h) (no g) =
-      omega (arith, ranked-fits ranked k i l j hk hi hl hj (omega arith) (omega arith))
-  no-dearer-inside low high k l (hi, hl, il) (hk, hj, kj) (yes h) (no g) =
-      let below : r k ≤ r bottom = column .greatest k (hk, hj, kj) in
-      let before : s first ≤ s l = row .least l (hi, hl, il) in
+  fits-inside : Fits P i j bottom first → Fits P i j top last → (k l : ℕ) → Remains P rest i l → Remains P rest k j
+      → Dec (r i ≤ r k) → Dec (s j ≤ s l) → Fits P i j k l
+  fits-inside low high k l il kj (yes h) (yes g) =
+      let c = ranked-fits ranked i k j l (eligible il) (eligible kj) h g in
+      record { admitted = c .far; no-dearer = c .no-dearer }
+  fits-inside low high k l il kj (no h) (no g) =
+      let c = ranked-fits ranked k i l j (eligible kj) (eligible il) (omega arith) (omega arith) in
+      record { admitted = c .near; no-dearer = omega (arith, c .no-dearer) }
+  fits-inside low high k l il kj (yes h) (no g) =
+      let below : r k ≤ r bottom = column .greatest k kj in
+      let before : s first ≤ s l = row .least l il in
       let hb : bottom < P .lots = column .high-in .0 in
-      omega (
-        arith,
-        low .no-dearer,
-        ranked-fits ranked k bottom l j hk hb hl hj below (omega arith),
-        ranked-fits ranked i bottom first l hi hb (row .low-in .1) hl (omega arith) before,
-      )
-  no-dearer-inside low high k l (hi, hl, il) (hk, hj, kj) (no h) (yes g) =
-      let above : r top ≤ r k = column .least k (hk, hj, kj) in
-      let after : s l ≤ s last = row .greatest l (hi, hl, il) in
+      let wide = ranked-fits ranked i bottom first l (eligible il) (hb, row .low-in .1, low .admitted) (omega arith) before in
+      let inner = ranked-fits ranked k bottom l j (eligible kj) (hb, il .1, wide .far) below (omega arith) in
+      record { admitted = inner .near; no-dearer = omega (arith, low .no-dearer, inner .no-dearer, wide .no-dearer) }
+  fits-inside low high k l il kj (no h) (yes g) =
+      let above : r top ≤ r k = column .least k kj in
+      let after : s l ≤ s last = row .greatest l il in
       let ht : top < P .lots = column .low-in .0 in
-      omega (
-        arith,
-        high .no-dearer,
-        ranked-fits ranked top k j l ht hk hj hl above g,
-        ranked-fits ranked top i l last ht hi hl (row .high-in .1) (omega arith) after,
-      )
+      let wide = ranked-fits ranked top i l last (ht, row .high-in .1, high .admitted) (eligible il) (omega arith) after in
+      let inner = ranked-fits ranked top k j l (ht, il .1, wide .near) (eligible kj) above g in
+      record { admitted = inner .far; no-dearer = omega (arith, high .no-dearer, inner .no-dearer, wide .no-dearer) }
 
   -- the two corners: (i, j) is free exactly when it fits with the last lot and first call, and with the first lot and last call
   pub free-iff-corners : Free P rest i j ↔ (Fits P i j bottom first × Fits P i j top last)
   free-iff-corners = (
     λ f. (f bottom first (row .low-in) (column .high-in), f top last (row .high-in) (column .low-in)),
-    λ (low, high) k l il kj. record {
-      admitted = ranked .complete k l (kj .0) (il .1);
-      no-dearer = no-dearer-inside low high k l il kj (decLe (r i) (r k)) (decLe (s j) (s l));
-    },
+    λ (low, high) k l il kj. fits-inside low high k l il kj (decLe (r i) (r k)) (decLe (s j) (s l)),
   )
 
   pub free-is-corners : free P rest i j ≡ (fits P i j bottom first && fits P i j top last)

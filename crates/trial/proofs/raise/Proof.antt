@@ -1,12 +1,12 @@
 -- `trial::raise` meets its contract. The invariant: the slacks passed stand raised.
-use mathlib.Core.Path.{_≡_, sym, _∙_, ap}
+use mathlib.Core.Path.{_≡_, sym, _∙_}
 use mathlib.Core.Bool.{true≢false}
 use mathlib.Core.Logic.{⊎-elim}
 use Prim.Native.Nat.{ℕ, _-_, _≤_, _<_}
 use native.Mathlib.Omega.{arith}
 use borrow.Author.Count.{below-more}
 use borrow.Author.Tests.{eq-eqb, ne-eqb}
-use lib.ListN.{length, getD, length-set, length-replicate}
+use lib.ListN.{length, getD, length-set}
 use lib.Seq.{getD-set-same, getD-set-other}
 use Rattle.trial.specs.Testing.{raisedOf}
 use Rattle.trial.proofs.raise.Statement.{statement}
@@ -19,14 +19,11 @@ Inv-loop slacks ranked raised₀ x₀ raised x =
 abbrev μ-loop : tie.MeasureT-loop
 μ-loop slacks ranked raised₀ x₀ raised x = 1024 - x
 
-zeros-long : (c : tie.Start Inv-loop μ-loop) → length (c .args .raised .now) ≡ 1024
-zeros-long c = ap length (c .pre .1) ∙ length-replicate {A = ℕ} 1024 0
-
 returns : tie.Need-returns Inv-loop μ-loop
-returns c = (λ e. absurd (true≢false (sym (c .if1 .taken) ∙ e)), zeros-long (c .before))
+returns c = let p = c .before .pre in (λ e. absurd (true≢false (sym (c .if1 .taken) ∙ e)), (p .1, p .2))
 
 loop-holds : tie.Need-loop-holds Inv-loop μ-loop
-loop-holds c = (omega arith, zeros-long (c .before), λ y h. absurd (omega arith))
+loop-holds c = (omega arith, c .before .pre .1, λ y h. absurd (omega arith))
 
 loop-again : tie.Need-loop-again Inv-loop μ-loop
 loop-again c =
@@ -42,7 +39,7 @@ loop-again c =
     )
 
 returns-2 : tie.Need-returns-2 Inv-loop μ-loop
-returns-2 c = let (few, long, done) = c .before .loop .inv in (λ e x h. done x (omega arith), long)
+returns-2 c = let (few, long, done) = c .before .loop .inv in (λ e x h. done x (omega arith), (long, λ e. absurd (true≢false (sym e ∙ c .before .before .if1 .left))))
 
 pub raise-spec : {M : Type 1} → statement M
 raise-spec =
@@ -52,12 +49,8 @@ raise-spec =
     μ-loop
     returns
     loop-holds
-    (λ c. omega arith)
-    (λ c. omega arith)
+    (λ c. omega arith) (λ c. omega arith)
     (λ c. omega (arith, c .before .before .before .before .before .pre .0 (c .before .before .before .loop .x)))
-    (λ c. omega arith)
-    (λ c. omega arith)
-    (λ c. omega arith)
-    (λ c. omega arith)
+    (λ c. omega arith) (λ c. omega arith) (λ c. omega arith) (λ c. omega arith)
     loop-again
     returns-2)

@@ -10,7 +10,7 @@ use Rattle.words.specs.Lefts.{isLeft}
 use Rattle.trial.specs.Left.{ToAsk}
 use Rattle.trial.proofs.Lefts.{left-few, own-few, rank-few}
 use Rattle.trial.proofs.Asking.{hinders-missing, hinders-misfit, lets-pass, passes-last, holder, to-ask-others, to-ask-from, to-ask-next, passes-all, passed-next}
-use Rattle.trial.proofs.Cornering.{can-ask-low, can-ask-high, passes, halves}
+use Rattle.trial.proofs.Cornering.{can-ask, corners-tell}
 use Rattle.trial.proofs.try_pair.Statement.{statement}
 use Rattle.trial.proofs.try_pair.Tie as tie
 
@@ -25,24 +25,10 @@ few : (c : tie.Start Inv-loop μ-loop) → (c .args .lot .0 < 32) × (c .args .c
 few c = own-few (c .pre .0)
 
 returns : tie.Need-returns Inv-loop μ-loop
-returns c =
-    let d = c .before .before in
-    let low = d .before .before .before in
-    let e = low .before .before .before in
-    (passes (e .before .pre .0) (e .if1 .taken) (low .fits2 .ensures) (d .fits3 .ensures) (c .before .if2 .taken) (c .if3 .taken), e .before .pre .1)
+returns c = let s = c .before .before in (rw (c .try-corners .ensures) (corners-tell (s .pre .0) (c .before .if1 .taken)), s .pre .1)
 
 returns-2 : tie.Need-returns-2 Inv-loop μ-loop
-returns-2 c =
-    let d = c .before in
-    let low = d .before .before .before in
-    let e = low .before .before .before in (
-      halves (e .before .pre .0) (e .if1 .taken) (low .fits2 .ensures) (d .fits3 .ensures)
-          (⊎-elim (λ w. rw (w .0 .taken, w .1 .left)) (λ w. rw (w .left)) (c .if2 .came)),
-      e .before .pre .1,
-    )
-
-returns-3 : tie.Need-returns-3 Inv-loop μ-loop
-returns-3 c = let p = c .before .before .before .before .pre in (passes-last (p .0) (c .before .without .ensures) (c .if4 .taken), p .1)
+returns-2 c = let p = c .before .before .before .before .pre in (passes-last (p .0) (c .before .without .ensures) (c .if2 .taken), p .1)
 
 abbrev start : tie.After-minus Inv-loop μ-loop → tie.Start Inv-loop μ-loop
 start c = c .before .before .before .before .before .before .before .before .before .before .before .before
@@ -52,7 +38,7 @@ loop-holds c =
     let o = c .before .before .before .before in
     let (t, p) = start c .pre in
     let ask = to-ask-others t (rw (o .before .wide .ensures) at (o .without2 .ensures)) in
-    (to-ask-from t ask p (c .before .before .wide2 .ensures) (c .before .below .ensures) (c .minus .ensures), refl)
+    (to-ask-from t ask p (omega (arith, c .before .before .wide2 .ensures)) (c .before .below .ensures) (c .minus .ensures), refl)
 
 -- the lot that is asked still has the call, and there are no ranks
 module _ (c : tie.After-wide3 Inv-loop μ-loop) where
@@ -77,14 +63,14 @@ misfits-requires c κs =
     let t = s e .pre .0 in
     (own-few t .0, own-few t .1, asked-few e, t .tabled .table .slacks-are .capped, t .left .raised-is (plain e) .low)
 
-returns-4 : tie.Need-returns-4 Inv-loop μ-loop
-returns-4 c =
+returns-3 : tie.Need-returns-3 Inv-loop μ-loop
+returns-3 c =
     let e = c .before .before .before .before in
     let (t, p) = s e .pre in (
       ⊎-elim
           (λ w. hinders-missing t _ (held e) (plain e) (c .before .minus2 .ensures) (w .taken))
           (λ w. hinders-misfit t _ (held e) (plain e) (w .1 .ensures) (w .2 .taken))
-          (c .if5 .came),
+          (c .if3 .came),
       rw (top e .loop .inv .1) (passed-next t (top e .loop .inv .0) p (e .before .before .lowest .ensures .0)),
     )
 
@@ -96,11 +82,11 @@ loop-again c =
     let two = c .before .before .before in
     let e = two .before .before .before .before in
     let t = s e .pre .0 in
-    let passes = lets-pass t _ (held e) (plain e) (two .before .minus2 .ensures) (two .if5 .left) (c .before .before .misfits .ensures) (c .before .if6 .left) in
+    let passes = lets-pass t _ (held e) (plain e) (two .before .minus2 .ensures) (two .if3 .left) (c .before .before .misfits .ensures) (c .before .if4 .left) in
     (to-ask-next t (top e .loop .inv .0) (e .wide3 .ensures) passes (c .without3 .ensures), top e .loop .inv .1)
 
-returns-5 : tie.Need-returns-5 Inv-loop μ-loop
-returns-5 c =
+returns-4 : tie.Need-returns-4 Inv-loop μ-loop
+returns-4 c =
     let (t, p) = start (c .before .before) .pre in
     (passes-all t (c .before .loop .inv .0) (omega arith), rw (c .before .loop .inv .1) p)
 
@@ -110,20 +96,12 @@ try-pair-spec =
     (tie.spec
     Inv-loop
     μ-loop
-    (λ c. omega (arith, few (c .before)))
-    (λ c. omega (arith, few (c .before)))
-    (λ c. omega (arith, few (c .before .before)))
-    (λ c κs. can-ask-low (c .before .before .before .pre .0) (c .before .before .if1 .taken))
-    (λ c. omega (arith, few (c .before .before .before .before)))
-    (λ c. omega (arith, few (c .before .before .before .before)))
-    (λ c. omega (arith, few (c .before .before .before .before .before)))
-    (λ c κs. can-ask-high (c .before .before .before .before .before .before .pre .0) (c .before .before .before .before .before .if1 .taken))
+    (λ c κs. can-ask (c .before .pre .0) (c .if1 .taken))
     returns
-    returns-2
     (λ c. omega (arith, few (c .before)))
     (λ c. omega (arith, few (c .before)))
     (λ c κs. omega (arith, few (c .before .before)))
-    returns-3
+    returns-2
     (λ c. omega (arith, few (c .before .before .before .before)))
     (λ c. omega (arith, few (c .before .before .before .before)))
     (λ c. omega (arith, few (c .before .before .before .before)))
@@ -133,13 +111,9 @@ try-pair-spec =
     (λ c. omega (arith, few (c .before .before .before .before .before .before .before .before)))
     (λ c. omega (arith, few (c .before .before .before .before .before .before .before .before)))
     (λ c. omega (arith, few (c .before .before .before .before .before .before .before .before)))
-    (λ c κs. search needs)
-    (λ c κs. search needs)
-    (λ c κs. search needs)
+    (λ c κs. search needs) (λ c κs. search needs) (λ c κs. search needs)
     loop-holds
-    (λ c κs. search needs)
-    (λ c. search needs)
-    (λ c κs. search needs)
+    (λ c κs. search needs) (λ c. search needs) (λ c κs. search needs)
     (λ c. omega (arith, few (s c)))
     (λ c. omega (arith, few (s c)))
     (λ c. omega (arith, asked-few (c .before)))
@@ -150,8 +124,8 @@ try-pair-spec =
     (λ c. omega (arith, few (s (c .before .before .before .before))))
     (λ c. omega (arith, few (s (c .before .before .before .before))))
     (λ c. omega (arith, few (s (c .before .before .before .before))))
-    returns-4
+    returns-3
     (λ c κs. search needs)
     loop-less
     loop-again
-    returns-5)
+    returns-4)

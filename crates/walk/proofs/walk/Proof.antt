@@ -124,9 +124,7 @@ walk-spec =
     μ-loop
     (λ c κs. search needs)
     loop-holds
-    (λ c. omega arith)
-    (λ c κs. omega arith)
-    (λ c κs. omega arith)
+    (λ c. omega arith) (λ c κs. omega arith) (λ c κs. omega arith)
     (λ c. omega (arith, call-few c))
     (λ c. omega (arith, call-few c))
     (λ c. omega (arith, lot-in c))

@@ -55,7 +55,6 @@ row-at-spec =
     (λ c. search needs)
     (λ c κs. tt)
     (λ c. omega (arith, size-is c, inside (c .before .before)))
-    (λ c. omega arith)
-    (λ c. omega arith)
+    (λ c. omega arith) (λ c. omega arith)
     loop-again
     returns)

@@ -73,7 +73,6 @@ row-starts-spec =
     (λ c. search needs)
     (λ c κs. tt)
     (λ c. omega (arith, size-is c, inside (c .before .before)))
-    (λ c. omega arith)
-    (λ c. omega arith)
+    (λ c. omega arith) (λ c. omega arith)
     loop-again
     returns)

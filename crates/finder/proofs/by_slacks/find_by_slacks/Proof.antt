@@ -9,23 +9,29 @@ use Rattle.finder.proofs.Writes.{counts-found, orders-found, orders-non
 use Rattle.finder.proofs.by_slacks.find_by_slacks.Statement.{statement}
 use Rattle.finder.proofs.by_slacks.find_by_slacks.Tie as tie
 
+find-pairs-requires : tie.Need-find-pairs-requires
+find-pairs-requires c κs =
+    let p = c .before .before .before .before .before .before .before .before .before .pre in
+    let r = c .before .before .before .before .rank .ensures in
+    (record { slacks-are = p .0; eligible-are = p .1; numbered = r .0 .0; monge = λ e. r .1 .0 e .1; plain = r .1 .1 }, ((r .0 .1, λ e. r .1 .0 e .0), (p .2, search needs)))
+
 returns : tie.Need-returns
 returns c =
-    let a = c .before .before .before .before .before .before .before .before .before .before .before .args in
+    let a = c .before .before .before .before .before .before .before .before .before .before .before .before .before .args in
     orders-none (find (bySlacks (a .slacks .now) (a .n) (a .m))) _ _ (a .buffer .now) (c .enum-told .given .1) (c .before .before .before .find-pairs .ensures)
 
 write-order-requires : tie.Need-write-order-requires
 write-order-requires c κs =
-    let a = c .before .before .before .before .before .before .before .before .before .before .before .before .before .before .args in
-    let p = c .before .before .before .before .before .before .before .before .before .before .before .before .before .before .pre in
+    let a = c .before .before .before .before .before .before .before .before .before .before .before .before .before .before .before .before .args in
+    let p = c .before .before .before .before .before .before .before .before .before .before .before .before .before .before .before .before .pre in
     let f = c .before .before .before .before .before .before .find-pairs in
     let e = counts-found (bySlacks (a .slacks .now) (a .n) (a .m)) _ _ _ _ refl (c .before .before .before .found .given .1) (f .ensures) in
     let few = size-few (p .0) in
-    (omega arith, omega (arith, f .kept .1 .1 .1 .1 .1 .1 .1 .1 .0), omega (arith, p .2, p .3))
+    (omega arith, omega (arith, f .kept .1 .1 .1 .1 .1 .1 .1 .1 .1 .0), omega (arith, p .2, p .3))
 
 returns-2 : tie.Need-returns-2
 returns-2 c =
-    let a = c .before .before .before .before .before .before .before .before .before .before .before .before .before .before .before .before .before .args in
+    let a = c .before .before .before .before .before .before .before .before .before .before .before .before .before .before .before .before .before .before .before .args in
     orders-found (find (bySlacks (a .slacks .now) (a .n) (a .m))) _ _ _ (a .buffer .now) _ (c .before .before .before .before .before .before .found .given .1)
     (c .before .before .before .before .before .before .before .before .before .find-pairs .ensures) (c .before .before .write-order .ensures)
 
@@ -33,11 +39,10 @@ pub find-by-slacks-spec : {M : Type 1} → statement M
 find-by-slacks-spec =
     tie.close
     (tie.spec
-    (λ c κs. search needs)
+    (λ c κs. let few = size-few (c .before .before .before .before .pre .0) in search needs)
     (λ c. search needs)
-    (λ c κs. search needs)
-    (λ c. search needs)
-    (λ c. search needs)
+    find-pairs-requires
+    (λ c. search needs) (λ c. search needs)
     returns
     (λ c. search needs)
     write-order-requires

@@ -55,8 +55,7 @@ meet-spec =
     returns
     entry-of-requires
     returns-2
-    (λ c. search needs)
-    (λ c. search needs)
+    (λ c. search needs) (λ c. search needs)
     mul-places
     add-places
     mul-places-2

@@ -26,10 +26,8 @@ first-words-spec =
     Inv-loop
     μ-loop
     (λ c. (omega arith, all-least-0 _ _ _ (c .pre .2)))
-    (λ c. omega arith)
-    (λ c. omega arith)
+    (λ c. omega arith) (λ c. omega arith)
     (λ c κs. (c .before .before .before .before .pre .0, omega arith, c .before .before .before .loop .inv .1 .long))
-    (λ c. omega arith)
-    (λ c. omega arith)
+    (λ c. omega arith) (λ c. omega arith)
     loop-again
     returns)

@@ -31,10 +31,8 @@ next-pair-spec =
     Inv-loop
     μ-loop
     (λ c. (omega arith, none-below-0 _ _))
-    (λ c κs. omega arith)
-    (λ c κs. search needs)
+    (λ c κs. omega arith) (λ c κs. search needs)
     returns
-    (λ c. omega arith)
-    (λ c. omega arith)
+    (λ c. omega arith) (λ c. omega arith)
     loop-again
     returns-2)

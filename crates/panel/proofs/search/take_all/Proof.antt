@@ -9,18 +9,20 @@ use lib.Arith.{digits-lt}
 use lib.ListN.{length, getD}
 use lib.Seq.{getD-set-same}
 use Rattle.words.proofs.Lefts.{taken-set}
+use Rattle.slacks.proofs.BySlacks.{zeros-at}
 use Rattle.panel_table.specs.Filling.{slackAt}
-use Rattle.panel.specs.Search.{FirstFree, NextIs, Searching}
+use Rattle.panel.specs.Search.{FirstFree, NextIs, TakenMarks, Searching}
+use Rattle.panel.proofs.Words.{marks-none, own-put, mark-put, left-by-marks}
 use Rattle.panel.proofs.Taking.{Kept, total-few, kept-falls, kept-first, kept-stop, kept-done, kept-room, kept-no-room}
 use Rattle.panel.proofs.search.take_all.Statement.{statement}
 use Rattle.panel.proofs.search.take_all.Tie as tie
 
 abbrev Inv-loop : tie.InvT-loop
-Inv-loop slacks n m total units₀ lefts₀ least₀ state₀ placed₀ lifted₀ count₀ units lefts least state placed lifted count =
-    (count ≤ total) × Kept slacks n m total state₀ count lefts least state placed lifted units
+Inv-loop slacks n m total units₀ eligible taken₀ lefts₀ least₀ state₀ placed₀ lifted₀ count₀ units taken lefts least state placed lifted count =
+    (count ≤ total) × Kept slacks n m total state₀ count lefts least state placed lifted units × TakenMarks eligible lefts taken
 
 abbrev μ-loop : tie.MeasureT-loop
-μ-loop slacks n m total units₀ lefts₀ least₀ state₀ placed₀ lifted₀ count₀ units lefts least state placed lifted count = total - count
+μ-loop slacks n m total units₀ eligible taken₀ lefts₀ least₀ state₀ placed₀ lifted₀ count₀ units taken lefts least state placed lifted count = total - count
 
 -- a pair was found
 module _ (c : tie.After-known-told Inv-loop μ-loop) where
@@ -36,7 +38,7 @@ module _ (c : tie.After-known-told Inv-loop μ-loop) where
   abbrev j : ℕ
   j = c .before .next .given .0 .1 .0 .0
 
-  asked : Searching (start .args .slacks .now) (start .args .n) (start .args .m) (start .args .total) (start .args .eligible) (start .args .remaining)
+  asked : Searching (start .args .slacks .now) (start .args .n) (start .args .m) (start .args .total) (start .args .t5) (start .args .remaining)
   asked = start .pre .0
 
   free : FirstFree (at-loop .loop .lefts) (at-loop .loop .least) i j
@@ -63,7 +65,7 @@ first-words-requires c κs = let s = c .before .before in (s .pre .0 .capped, s 
 loop-holds : tie.Need-loop-holds Inv-loop μ-loop
 loop-holds c =
     let s = c .before .before .before in
-    (omega arith, subst⁻¹ (Kept _ _ _ _ _ _ _ _ _ _ _) (s .pre .1) (kept-first _ _ _ _ _ _ (s .pre .0) _ (c .first-words .ensures)))
+    (omega arith, subst⁻¹ (Kept _ _ _ _ _ _ _ _ _ _ _) (s .pre .1) (kept-first _ _ _ _ _ _ (s .pre .0) _ (c .first-words .ensures)), marks-none (zeros-at 64) refl)
 
 returns : tie.Need-returns Inv-loop μ-loop
 returns c =
@@ -75,7 +77,7 @@ returns c =
 -- the pair has room
 module _ (c : tie.After-smaller Inv-loop μ-loop) where
   abbrev found : tie.After-known-told Inv-loop μ-loop
-  found = c .before .before .before .before .before .before
+  found = c .before .before .before .before .before .before .before .before .before
 
   room-fits : c .smaller .result < 4294967296
   room-fits = omega (arith, c .smaller .ensures, left-fits found)
@@ -89,9 +91,16 @@ loop-again c =
     let f = found t in
     let l = at-loop f .loop in
     let more = f .before .before .before .before .before .before .loop-test .taken in
-    let i-in : i f < length (l .lefts) = omega (arith, l .inv .1 .left .long, in-8 f .0) in
-    let out = taken-set (i f) (j f) _ (l .lefts) i-in (t .before .before .before .before .before .without .ensures) in
+    let (hi, hj) = in-8 f in
+    let (_, k, marks) = l .inv in
+    let i-in : i f < length (l .lefts) = omega (arith, k .left .long, hi) in
+    let minus = t .before .before .before .before .before in
+    let mark = minus .before .before .before .mark-of .ensures in
+    let (off, kept) = left-by-marks marks hi hj (λ x e. omega (arith, asked f .left .inside _ x e .1, asked f .calls-few)) (λ x e. omega (arith, k .left .inside _ x e .1, asked f .calls-few))
+    (rw mark at (minus .before .taken-calls .ensures)) (minus .minus .ensures) in
+    let out = taken-set _ (l .lefts) i-in off kept in
     let own = getD-set-same (l .lefts) (i f) _ 0 i-in in
+    let put = rw (← mark) at (mark-put marks hi hj out) in
     let renewed = t .before .before .before .renew .ensures in
     ⊎-elim
     (λ (if1, lifted, give, units-is, state-is, placed-is, lifted-is).
@@ -99,11 +108,13 @@ loop-again c =
       omega arith,
       kept-room _ _ _ _ _ _ (asked f) _ _ _ _ _ _ _ (l .inv .1) (i f) (j f) (free f) _ _ _ out own renewed _ _ (give .ensures) (t .smaller .ensures)
           more (room-fits t),
+      put,
     ))
     (λ (if1, units-is, state-is, placed-is, lifted-is).
     rw (units-is, state-is, placed-is, lifted-is) (
       omega arith,
       kept-no-room _ _ _ _ _ _ (asked f) _ _ _ _ _ _ _ (l .inv .1) (i f) (j f) (free f) _ _ _ out own renewed (omega arith) more,
+      put,
     ))
     (c .if1 .came)
 
@@ -125,19 +136,24 @@ take-all-spec =
     first-words-requires
     loop-holds
     (λ c κs. c .before .before .before .before .before .before .before .pre .0 .lots-few)
-    (λ c. search needs)
-    (λ c. search needs)
+    (λ c. search needs) (λ c. search needs)
     returns
-    (λ c. omega (arith, in-8 c))
-    (λ c. omega (arith, in-8 c, at-loop c .loop .inv .1 .left .long))
-    (λ c κs. omega (arith, in-8 c))
+    (λ c κs. in-8 c .1)
     (λ c. omega (arith, in-8 (c .before)))
-    (λ c. omega (arith, in-8 (c .before), at-loop (c .before) .loop .inv .1 .left .long))
-    (λ c κs. (asked (c .before .before) .capped, in-8 (c .before .before) .0, at-loop (c .before .before) .loop .inv .1 .words .long))
-    (λ c. omega (arith, in-8 (c .before .before .before)))
-    (λ c. omega (arith, in-8 (c .before .before .before)))
+    (λ c. omega (arith, in-8 (c .before)))
+    (λ c. omega (arith, in-8 (c .before), at-loop (c .before) .loop .inv .2 .long))
+    (λ c. omega (arith, in-8 (c .before)))
+    (λ c. omega (arith, in-8 (c .before)))
+    (λ c κs. let f = c .before .before in
+    (in-8 f .0, rw (← c .before .mark-of .ensures) at (own-put (at-loop f .loop .inv .2) (in-8 f .0) (in-8 f .1) (i f) (in-8 f .0))))
+    (λ c κs. tt)
     (λ c. omega (arith, in-8 (c .before .before .before .before)))
-    (λ c. omega (arith, in-8 (c .before .before .before .before)))
+    (λ c. omega (arith, in-8 (c .before .before .before .before), at-loop (c .before .before .before .before) .loop .inv .1 .left .long))
+    (λ c κs. (asked (c .before .before .before .before .before) .capped, in-8 (c .before .before .before .before .before) .0, at-loop (c .before .before .before .before .before) .loop .inv .1 .words .long))
+    (λ c. omega (arith, in-8 (c .before .before .before .before .before .before)))
+    (λ c. omega (arith, in-8 (c .before .before .before .before .before .before)))
+    (λ c. omega (arith, in-8 (c .before .before .before .before .before .before .before)))
+    (λ c. omega (arith, in-8 (c .before .before .before .before .before .before .before)))
     (λ c κs. search needs)
     (λ c. omega (arith, room-fits (c .before)))
     (λ c. omega (arith, entry-in (found (c .before))))

@@ -47,7 +47,6 @@ fill-spec =
     enter-lot-requires
     (λ c. omega (arith, few (c .before .before)))
     (λ c. few (c .before .before))
-    (λ c. omega arith)
-    (λ c. omega arith)
+    (λ c. omega arith) (λ c. omega arith)
     loop-again
     returns)

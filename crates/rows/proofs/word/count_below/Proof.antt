@@ -25,8 +25,7 @@ count-below-spec =
     (tie.spec
     (λ c κs. search needs)
     returns
-    (λ c. search needs)
-    (λ c. search needs)
+    (λ c. search needs) (λ c. search needs)
     rem-count
     (λ c κs. search needs)
     returns-2)

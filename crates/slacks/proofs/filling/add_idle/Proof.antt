@@ -45,7 +45,6 @@ add-idle-spec =
     (λ c κs. few (c .before .before .before) .1)
     (λ c. omega (arith, few (c .before .before .before .before)))
     (λ c. omega (arith, few (c .before .before .before .before)))
-    (λ c. omega arith)
-    (λ c. omega arith)
+    (λ c. omega arith) (λ c. omega arith)
     loop-again
     returns)

@@ -84,8 +84,7 @@ fill-slacks-spec =
     (λ c. omega (arith, room (c .before)))
     (λ c. room (c .before) .0)
     enter-lot-requires
-    (λ c. omega arith)
-    (λ c. omega arith)
+    (λ c. omega arith) (λ c. omega arith)
     loop-again
     (λ c κs. let r = read (c .before .before .before .before) in (r .is-readable, r .lots-is))
     returns)

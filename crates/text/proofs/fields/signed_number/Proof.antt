@@ -60,8 +60,7 @@ pub signed-number-spec : {M : Type 1} → statement M
 signed-number-spec =
     tie.close
     (tie.spec
-    (λ c κs. search needs)
-    (λ c κs. search needs)
+    (λ c κs. search needs) (λ c κs. search needs)
     put-requires
     number-requires
     (λ c. search needs)

@@ -42,8 +42,7 @@ word-spec =
     loop-holds
     (λ c. omega arith)
     (λ c κs. record { fits = omega arith })
-    (λ c. omega arith)
-    (λ c. omega arith)
+    (λ c. omega arith) (λ c. omega arith)
     loop-again
     (λ c. omega arith)
     returns)

@@ -109,10 +109,7 @@ lower-set-spec =
     Inv-loop
     μ-loop
     loop-holds
-    (λ c κs. search needs)
-    (λ c. search needs)
-    (λ c. search needs)
-    (λ c κs. search needs)
+    (λ c κs. search needs) (λ c. search needs) (λ c. search needs) (λ c κs. search needs)
     lower-requires
     (λ c. omega (arith, single-is c, single-in c))
     (λ c. omega (arith, single-is c, single-in c, pow-pos (l c)))
