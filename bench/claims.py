@@ -1,7 +1,7 @@
 """Repeats what docs/WHEN-TO-USE.md says of other solvers. Called by bench/claims.
 
-Each claim stands here in the page's own words. Its line has these, what was seen, and `as said` or `NOT as said`; words that the page does
-not have are not as said. The exit status is 1 if one is not.
+Each claim stands here in the page's own words; those on speed are made of the figures of docs/BENCHMARKS.md. Its line has these, what was
+seen, and `as said` or `NOT as said`; words that the page does not have are not as said. The exit status is 1 if one is not.
 """
 
 import random
@@ -27,6 +27,7 @@ from claims_solvers import (
     version,
 )
 from placer import Cause, Refused, book_bytes, find_order, place
+from speed_words import sentences
 
 DOCS = ROOT / "docs"
 VERSIONS = "LEMON 1.3.1, GLPK 5.0, CLP 1.17.6, CBC 2.10.8, scipy 1.10.1 and networkx 2.8.8"
@@ -187,19 +188,12 @@ def cross_check():
     return f"{version('LEMON')} and {version('GLPK')}: the same cost on {same} of {books} books", same == books
 
 
-def ratios(call):
-    """Return how many times less than LEMON a call takes at 32, by its table in BENCHMARKS.md, and in how many cases LEMON is faster."""
-    table, below, *_ = (DOCS / "BENCHMARKS.md").read_text().split(f"| `{call}` |")[1].split("\n\n")
-    last = [float(row.split("|")[-2].split()[0]) for row in table.splitlines()[2:]]
-    return f"{min(last)} to {max(last)} times less", re.search(r"in (\d+) of these 24 cases", below)[1]
+def measured():
+    """Say where the figures are from that the words on speed are made of."""
+    return "these are the figures of BENCHMARKS.md", True
 
 
-@claim("finding and placing takes 1.2 to 5.7 times less than LEMON, placing alone 1.7 to 6.7 times less")
-def speed():
-    (both, slower), (alone, slower_alone) = ratios("find_and_run"), ratios("run_order")
-    said = f"finding and placing takes {both} than LEMON, placing alone {alone}"
-    seen = f"BENCHMARKS.md: {both}, {alone}; LEMON is faster in {slower} and in {slower_alone} cases"
-    return seen, said in CLAIMS and slower == slower_alone == "0"
+CLAIMS.update((" ".join(words.split()), measured) for words in sentences())
 
 
 def searched(book):
@@ -213,7 +207,7 @@ def searched(book):
     return time.perf_counter() - start
 
 
-@claim("complete but for a pair or two, take under a millisecond to search at 32 by 32")
+@claim("Products that lack a pair or two, at any place, take under a millisecond to search at 32 by 32")
 def search():
     rng, slowest = random.Random(1), 0
     for _ in range(200):

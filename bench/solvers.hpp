@@ -1,4 +1,5 @@
-// The same placing by LEMON's network simplex, by CLP and by GLPK: built from lists in memory, then solved.
+// The same placing by LEMON's network simplex, by CLP and by GLPK: built from lists in memory, then solved; by LEMON also with what it can
+// keep.
 #pragma once
 #include <coin/ClpSimplex.hpp>
 #include <glpk.h>
@@ -14,24 +15,72 @@ struct Answer {
     bool operator==(const Answer &other) const { return units == other.units && cost == other.cost; }
 };
 
-inline Answer by_lemon(const Problem &p) {
-    lemon::SmartDigraph graph;
+using Graph = lemon::SmartDigraph;
+using Simplex = lemon::NetworkSimplex<Graph, int64_t, int64_t>;
+using Costs = Graph::ArcMap<int64_t>;
+using Supplies = Graph::NodeMap<int64_t>;
+
+// Lot v is node v, and call v is node size + v.
+inline void add_nodes(Graph &graph, const Problem &p) {
     graph.reserveNode(2 * p.size);
     graph.reserveArc(int(p.pairs.size()));
     for (int v = 0; v < 2 * p.size; v++) graph.addNode();
-    lemon::SmartDigraph::ArcMap<int64_t> cost(graph);
-    lemon::SmartDigraph::NodeMap<int64_t> supply(graph);
+}
+
+inline void add_pairs(Graph &graph, Costs &cost, const Problem &p) {
+    for (const Pair &pair : p.pairs) cost[graph.addArc(graph.nodeFromId(pair.lot), graph.nodeFromId(p.size + pair.call))] = pair.cost;
+}
+
+inline void set_amounts(const Graph &graph, Supplies &supply, const Problem &p) {
     for (int v = 0; v < p.size; v++) {
         supply[graph.nodeFromId(v)] = p.lots[v];
         supply[graph.nodeFromId(p.size + v)] = -p.calls[v];
     }
-    for (const Pair &pair : p.pairs) cost[graph.addArc(graph.nodeFromId(pair.lot), graph.nodeFromId(p.size + pair.call))] = pair.cost;
-    lemon::NetworkSimplex<lemon::SmartDigraph, int64_t, int64_t> simplex(graph);
-    if (simplex.supplyMap(supply).costMap(cost).run() != simplex.OPTIMAL) return {-1, -1};
+}
+
+inline Answer solved_by(Simplex &simplex, const Graph &graph) {
+    if (simplex.run() != simplex.OPTIMAL) return {-1, -1};
     Answer answer{0, simplex.totalCost()};
-    for (lemon::SmartDigraph::ArcIt arc(graph); arc != lemon::INVALID; ++arc) answer.units += simplex.flow(arc);
+    for (Graph::ArcIt arc(graph); arc != lemon::INVALID; ++arc) answer.units += simplex.flow(arc);
     return answer;
 }
+
+inline Answer by_lemon(const Problem &p) {
+    Graph graph;
+    add_nodes(graph, p);
+    Costs cost(graph);
+    Supplies supply(graph);
+    set_amounts(graph, supply, p);
+    add_pairs(graph, cost, p);
+    Simplex simplex(graph);
+    simplex.supplyMap(supply).costMap(cost);
+    return solved_by(simplex, graph);
+}
+
+// A book's graph with its costs, and the solver: what LEMON can keep where only the amounts are new. It solves from nothing all the same,
+// since it takes no earlier solution to start from.
+class KeptGraph {
+    Graph graph;
+    Supplies supply{graph};
+    std::unique_ptr<Simplex> simplex;
+
+  public:
+    explicit KeptGraph(const Problem &p) {
+        add_nodes(graph, p);
+        Costs cost(graph);
+        add_pairs(graph, cost, p);
+        simplex = std::make_unique<Simplex>(graph);
+        simplex->costMap(cost);
+    }
+
+    Answer place(const Problem &p) {
+        set_amounts(graph, supply, p);
+        simplex->supplyMap(supply);
+        return solved_by(*simplex, graph);
+    }
+};
+
+inline Answer by_kept_graph(const Problem &p) { return p.kept->place(p); }
 
 inline Answer by_clp(const Problem &p) {
     const int pairs = int(p.pairs.size());

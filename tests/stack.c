@@ -1,8 +1,8 @@
-/* Measures the stack that each call takes on the largest book, with an order that passes and with one that fails, and on that book less
- * one pair, whose pairs the finder tries in another way; the run with an idle call and the ticket panel's on the largest books that they
- * take, of 31 calls and of eight by eight; and the longest calls on books and amounts of version 2. The first of all has the loader bind
- * memcpy on its stack where that is done late. The call runs in a thread whose stack was filled with a pattern. Fails if a call takes more
- * than the header says, of all calls or of the panel's. bench/run puts the figures on its page. */
+/* Measures the stack that each call takes on the largest book, with an order that passes and with one that fails; on that book less one
+ * pair; and on one that is Monge by no ranks, so that the finder asks the lots. The run with an idle call and the ticket panel's are measured
+ * on the largest books that they take, of 31 calls and of eight by eight, and the longest calls on books and amounts of version 2 too. The
+ * first of all has the loader bind memcpy on its stack where that is done late. The call runs in a thread whose stack was filled with a
+ * pattern. Fails if a call takes more than the header says, of all calls or of the panel's. bench/run puts the figures on its page. */
 #define _GNU_SOURCE
 #include <pthread.h>
 #include <stdio.h>
@@ -19,7 +19,8 @@ struct desk {
     size_t book_len, amounts_len;
 };
 
-static struct desk largest, less_one, of_31, of_31_less_one, rebates, rebates_of_31, eight, eight_less_one, rebates_of_8;
+static struct desk largest, less_one, levels, rebates, of_31, of_31_less_one, levels_of_31, rebates_of_31;
+static struct desk eight, eight_less_one, rebates_of_8;
 static const struct desk *on;
 static uint8_t order[PLACER_ORDER_MAX] = "CLO\1\0\0\4";
 static uint32_t flow[PLACER_FLOW_MAX];
@@ -31,9 +32,15 @@ static uint8_t *put(uint8_t *at, uint32_t value)
     return at + 4;
 }
 
+/* Monge as the lots and calls are numbered. */
+static uint32_t falling(uint32_t lot, uint32_t call) { return 1000 - lot * call; }
+
+/* Two levels, the low one where lot and call reach a number together: there is an order, and no ranks by which this is Monge. */
+static uint32_t level(uint32_t lot, uint32_t call) { return lot + call < 31 ? 1000 : 0; }
+
 /* All pairs, less so many of lot 0 with the last calls; every amount at the limit. In version 2 the costs are below zero, and the amounts
  * have reserves. */
-static void fill(struct desk *desk, uint8_t version, uint32_t lots, uint32_t calls, uint32_t missing)
+static void fill(struct desk *desk, uint32_t (*cost)(uint32_t, uint32_t), uint8_t version, uint32_t lots, uint32_t calls, uint32_t missing)
 {
     uint8_t *at = desk->book + 7;
     uint32_t rebate = version == 2 ? PLACER_COST_MAX : 0;
@@ -43,7 +50,7 @@ static void fill(struct desk *desk, uint8_t version, uint32_t lots, uint32_t cal
     for (uint32_t lot = 0; lot < lots; lot++) {
         uint32_t count = lot == 0 ? calls - missing : calls;
         at = put(at, UINT32_MAX >> (32 - count));
-        for (uint32_t call = 0; call < count; call++) at = put(at, 1000 - lot * call - rebate);
+        for (uint32_t call = 0; call < count; call++) at = put(at, cost(lot, call) - rebate);
     }
     desk->book_len = (size_t)(at - desk->book);
     at = desk->amounts + 7;
@@ -117,6 +124,9 @@ static const struct {
              {"find_order, a pair missing", find_order, &less_one, 0},
              {"find_and_run, a pair missing", find_and_run, &less_one, 0},
              {"find_and_run_idle, 31 calls, a pair missing", find_and_run_idle, &of_31_less_one, 0},
+             {"find_order, two levels", find_order, &levels, 0},
+             {"find_and_run, two levels", find_and_run, &levels, 0},
+             {"find_and_run_idle, 31 calls, two levels", find_and_run_idle, &levels_of_31, 0},
              {"find_and_run, version 2", find_and_run, &rebates, 0},
              {"find_and_run_idle, 31 calls, version 2", find_and_run_idle, &rebates_of_31, 0},
              {"find_and_run, 8 by 8", find_and_run, &eight, 0},
@@ -133,9 +143,10 @@ static int keeps_within(const char *name, size_t most, size_t bound)
 
 int main(void)
 {
-    fill(&largest, 1, 32, 32, 0), fill(&less_one, 1, 32, 32, 1), fill(&of_31, 1, 32, 31, 0), fill(&of_31_less_one, 1, 32, 31, 1);
-    fill(&rebates, 2, 32, 32, 0), fill(&rebates_of_31, 2, 32, 31, 0);
-    fill(&eight, 1, 8, 8, 0), fill(&eight_less_one, 1, 8, 8, 1), fill(&rebates_of_8, 2, 8, 8, 0);
+    fill(&largest, falling, 1, 32, 32, 0), fill(&less_one, falling, 1, 32, 32, 1), fill(&levels, level, 1, 32, 32, 0);
+    fill(&of_31, falling, 1, 32, 31, 0), fill(&of_31_less_one, falling, 1, 32, 31, 1), fill(&levels_of_31, level, 1, 32, 31, 0);
+    fill(&rebates, falling, 2, 32, 32, 0), fill(&rebates_of_31, falling, 2, 32, 31, 0);
+    fill(&eight, falling, 1, 8, 8, 0), fill(&eight_less_one, falling, 1, 8, 8, 1), fill(&rebates_of_8, falling, 2, 8, 8, 0);
     for (size_t k = 0; k < 1024; k++) order[7 + 2 * k] = (uint8_t)(k / 32), order[8 + 2 * k] = (uint8_t)(31 - k % 32);
     size_t before = used(nothing), most = 0, most_of_panel = 0;
     for (size_t k = 0; k < sizeof calls / sizeof calls[0]; k++) {
