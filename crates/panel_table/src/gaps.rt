@@ -50,7 +50,7 @@ fn gap(own: u32, other: u32) -> u32
     }
 }
 
-// Of the calls in the word, at which the gap is `low`, and of call l, at which it is `new`, those at which it is the lesser of the two.
+// Of the calls in the word, at which the gap is `low`, and of that of bit l, at which it is `new`, those at which it is the lesser of the two.
 fn with_call(word: u32, low: u32, new: u32, l: usize) -> u32
     requires { ⌜ (low ≤ gapOut) × (new < gapOut) × (l < 32) ⌝ }
     ensures { λ r. ⌜ WithCall word low new l r ⌝ }
