@@ -29,9 +29,9 @@ pub fn find_by_slacks(
     // By line: the number of each rank, and the rank of each number.
     let mut names: [u8; LINES] = [0; LINES];
     let mut ranks: [u8; LINES] = [0; LINES];
-    // By lot, a row of `SIDE` calls: with ranks the costs, gaps filled; without, the raised slacks of the pairs left.
-    let mut raised: [u32; PAIRS] = [0; PAIRS];
-    let ranked = rank(slacks, n, m, total, &mut raised, &mut names, &mut ranks);
+    // By lot, a row of `SIDE` calls, what trials compare: with ranks the costs, gaps filled; without, the raised slacks of the pairs left.
+    let mut compared: [u32; PAIRS] = [0; PAIRS];
+    let ranked = rank(slacks, n, m, total, &mut compared, &mut names, &mut ranks);
     // By place in the order, two bytes for each of at most `PAIRS` pairs.
     let mut pairs: [u8; 2 * PAIRS] = [0; 2 * PAIRS];
     let found = find_pairs(
@@ -43,7 +43,7 @@ pub fn find_by_slacks(
         &names,
         &ranks,
         eligible,
-        &mut raised,
+        &mut compared,
         &mut pairs,
     );
     let Search::Found(count) = found else {

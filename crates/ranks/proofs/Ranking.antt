@@ -2,6 +2,7 @@
 -- (`ranked-of`). Numbers as they are can be ranks too (`plain-numbered`).
 use mathlib.Core.Path.{_≡_, _∙_, ap₂, subst}
 use mathlib.Core.Logic.{by-cases}
+use mathlib.Core.Bool.{true}
 use mathlib.Core.List.{List}
 use Prim.Native.Nat.{ℕ, suc, _+_, _*_, _≤_, _<_}
 use native.Mathlib.Decide.{ℕ-discrete, decLt}
@@ -17,15 +18,15 @@ use Rattle.specification.specs.Costs.{costTop}
 use Rattle.book.specs.Table.{entry}
 use Rattle.slacks.specs.Slacks.{bySlacks, Slacks}
 use Rattle.slacks.proofs.BySlacks.{remains-says, admits-is}
-use Rattle.ranks.specs.Numbered.{Numbered, Plain, filledCost, Filled, Low, costBy, AllFit}
+use Rattle.ranks.specs.Numbered.{Numbered, Plain, comparedOf, Compared, Low, costBy, AllFit}
 
 -- a cost is no more than that of a gap
-filled-le : (slack : ℕ) → filledCost slack ≤ 2 * suc costTop
-filled-le slack = by-cases (ℕ-discrete slack 0) (λ e. rw (eq-eqb slack 0 e) (omega arith)) (λ d. rw (ne-eqb slack 0 d) (omega arith))
+cost-le : (slack : ℕ) → comparedOf true slack ≤ 2 * suc costTop
+cost-le slack = by-cases (ℕ-discrete slack 0) (λ e. rw (eq-eqb slack 0 e) (omega arith)) (λ d. rw (ne-eqb slack 0 d) (omega arith))
 
-pub low-of : {slacks costs : List ℕ} → Filled slacks costs → Low costs
+pub low-of : {slacks costs : List ℕ} → Compared true slacks costs → Low costs
 low-of {slacks} {costs} f x = by-cases (decLt x 1024)
-    (λ h. omega (arith, f .each x h, filled-le (getD slacks x 0)))
+    (λ h. omega (arith, f .each x h, cost-le (getD slacks x 0)))
     (λ o. omega (arith, List·getD-eq-default {A = ℕ} costs 0 {n = x} (omega (arith, f .long))))
 
 -- numbers as they are
@@ -39,13 +40,13 @@ plain-renames few same = record {
 
 module _ {slacks : List ℕ} {n m : ℕ} (s : Slacks slacks n m) where
   -- each line has its own number
-  pub plain-numbered : {lines : List ℕ} → length lines ≡ 64 → Plain lines → Numbered n m lines lines
-  plain-numbered {lines} long plain =
+  pub plain-numbered : {lines : List ℕ} → Plain lines → Numbered n m lines lines
+  plain-numbered {lines} plain =
       let lots = plain-renames {own = λ x. getD lines x 0} (s .lots-few) (λ x h. omega (arith, plain x (omega arith))) in
       let calls = plain-renames {own = λ x. getD lines (32 + x) 0} (s .calls-few) (λ x h. omega (arith, plain (32 + x) (omega arith))) in
       search needs
 
-  module _ {costs : List ℕ} (f : Filled slacks costs) where
+  module _ {costs : List ℕ} (f : Compared true slacks costs) where
     abbrev P : Problem
     P = bySlacks slacks n m
 

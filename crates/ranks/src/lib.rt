@@ -1,5 +1,6 @@
-// Lots and calls numbered anew, by ranks by which the book is Monge, pairs missing or not: ranks are guessed, and kept where the table of costs is
-// Monge by them, its gaps filled with a number above any two costs. Else each lot and each call has its own number as its rank.
+// Lots and calls numbered anew, by ranks by which the book is Monge, pairs missing or not: the numbers as they are, or ranks that are guessed. They are
+// kept where the table of costs is Monge by them, its gaps filled with a number above any two costs. Else each lot and each call has its own number
+// as its rank, and there are no ranks. The table that trials compare is filled for the one or the other.
 mod guess;
 
 use files::wide;
@@ -12,11 +13,12 @@ use specification::Call;
 use specification::Lot;
 ghost use mathlib.Core.Path.{_≡_};
 ghost use mathlib.Core.Bool.{true, false};
-ghost use Prim.Native.Nat.{ℕ, _+_, _≤_, _<_};
+ghost use Prim.Native.Nat.{ℕ, suc, _+_, _≤_, _<_};
 ghost use lib.ListN.{length, getD};
 ghost use Rattle.transport.proofs.Finder.Ranks.{Renames, Ranked};
+ghost use Rattle.specification.specs.Costs.{costTop};
 ghost use Rattle.slacks.specs.Slacks.{bySlacks, Capped, Slacks};
-ghost use Rattle.ranks.specs.Numbered.{Numbered, Listed, Plain, Filled, Low, fitsBy, AllFit};
+ghost use Rattle.ranks.specs.Numbered.{Numbered, Listed, Plain, comparedOf, Compared, Low, fitsBy, AllFit};
 
 // A line is a lot or a call: line i is lot i, and line SIDE + j is call j.
 pub const LINES: usize = 2 * SIDE;
@@ -97,7 +99,7 @@ fn all_fit(costs: &[u32; PAIRS], n: usize, m: usize, names: &Lines) -> bool
 
 // Whether lots and calls are named anew, and all neighbours by their ranks fit.
 fn passes(costs: &[u32; PAIRS], n: usize, m: usize, names: &Lines, ranks: &Lines) -> bool
-    requires { ⌜ Low (now costs) × (n ≤ 32) × (m ≤ 32) × Listed (now names) (now ranks) ⌝ }
+    requires { ⌜ Low (now costs) × (n ≤ 32) × (m ≤ 32) ⌝ }
     ensures { λ r. ⌜ (r ≡ true → Numbered n m (now (names .entry)) (now (ranks .entry)) × AllFit (now (costs .entry)) (now (names .entry)) n m) ⌝ }
 {
     if !renames(names, ranks, 0, n) || !renames(names, ranks, SIDE, m) {
@@ -117,52 +119,63 @@ fn numbers() -> Lines
     lines
 }
 
-// The cost of each pair by its slack, and that of a gap where it has none.
-fn fill(slacks: &[u32; PAIRS], costs: &mut [u32; PAIRS])
-    requires { ⌜ Capped (now slacks) × (length (now costs) ≡ 1024) ⌝ }
-    ensures { λ r. ⌜ Filled (now (slacks .entry)) (now (costs .exit)) ⌝ }
+// What trials compare of a pair, by its slack: with ranks its cost, or that of a gap; without, its slack raised above all others, or 0.
+fn compared_of(ranked: bool, slack: u32) -> u32
+    requires { ⌜ slack ≤ suc costTop ⌝ }
+    ensures { λ r. ⌜ r ≡ comparedOf ranked slack ⌝ }
 {
-    for x in 0..PAIRS {
-        let slack = slacks[x];
-        costs[x] = if slack == 0 {
+    if ranked {
+        return if slack == 0 {
             GAP_COST
         } else {
             SLACK_MOST - slack
         };
     }
+    if slack == 0 { 0 } else { slack + SLACK_MOST }
 }
 
-// Numbers the lots and the calls, of which `total` pairs are eligible: the names by rank, and the ranks. Whether the book is Monge by the ranks, with
-// the table of its costs then. A book with more than `SIDE` gaps is not tried.
+// The table of that.
+fn fill(ranked: bool, slacks: &[u32; PAIRS], compared: &mut [u32; PAIRS])
+    requires { ⌜ Capped (now slacks) × (length (now compared) ≡ 1024) ⌝ }
+    ensures { λ r. ⌜ Compared ranked (now (slacks .entry)) (now (compared .exit)) ⌝ }
+{
+    for x in 0..PAIRS {
+        compared[x] = compared_of(ranked, slacks[x]);
+    }
+}
+
+// Numbers the lots and the calls, of which `total` pairs are eligible: the names by rank, and the ranks. Whether the book is Monge by the ranks; the
+// table that trials compare is of the one kind or of the other. A book with more than `SIDE` gaps is not tried.
 pub fn rank(
     slacks: &[u32; PAIRS],
     n: usize,
     m: usize,
     total: usize,
-    costs: &mut [u32; PAIRS],
+    compared: &mut [u32; PAIRS],
     names: &mut Lines,
     ranks: &mut Lines,
 ) -> bool
-    requires { ⌜ Slacks (now slacks) n m × (total ≤ 1024) × (length (now costs) ≡ 1024) × Listed (now names) (now ranks) ⌝ }
-    ensures { λ r. ⌜ Numbered n m (now (names .exit)) (now (ranks .exit)) × (length (now (costs .exit)) ≡ 1024) ⌝ }
-    ensures { λ r. ⌜ (r ≡ true → Filled (now (slacks .entry)) (now (costs .exit)) × Ranked (bySlacks (now (slacks .entry)) n m)
-        (λ i. getD (now (ranks .exit)) i 0) (λ j. getD (now (ranks .exit)) (32 + j) 0)) ⌝ }
+    requires { ⌜ Slacks (now slacks) n m × (total ≤ 1024) × (length (now compared) ≡ 1024) × Listed (now names) (now ranks) ⌝ }
+    ensures { λ r. ⌜ Numbered n m (now (names .exit)) (now (ranks .exit)) × Compared r (now (slacks .entry)) (now (compared .exit)) ⌝ }
+    ensures { λ r. ⌜ (r ≡ true → Ranked (bySlacks (now (slacks .entry)) n m) (λ i. getD (now (ranks .exit)) i 0) (λ j. getD (now (ranks .exit)) (32 + j) 0)) ⌝ }
     ensures { λ r. ⌜ (r ≡ false → Plain (now (ranks .exit))) ⌝ }
 {
     let plain = numbers();
     *names = plain;
     *ranks = plain;
     if total + SIDE < n * m {
+        fill(false, slacks, compared);
         return false;
     }
-    fill(slacks, costs);
-    if all_fit(costs, n, m, names) {
+    fill(true, slacks, compared);
+    if all_fit(compared, n, m, names) {
         return true;
     }
-    by_costs(costs, n, m, names, ranks);
-    if passes(costs, n, m, names, ranks) {
+    by_costs(compared, n, m, names, ranks);
+    if passes(compared, n, m, names, ranks) {
         return true;
     }
+    fill(false, slacks, compared);
     *names = plain;
     *ranks = plain;
     false

@@ -19,9 +19,9 @@ use Rattle.transport.specs.Finder.{size}
 use Rattle.words.specs.Words.{Below}
 use Rattle.words.specs.Lefts.{isLeft}
 use Rattle.words.proofs.Sets.{bit-none, bit-all}
-use Rattle.ranks.specs.Numbered.{Filled}
+use Rattle.ranks.specs.Numbered.{Compared}
 use Rattle.lines.specs.Lines.{Lined, Ended}
-use Rattle.trial.specs.Testing.{raisedOf, Raised}
+use Rattle.trial.specs.Testing.{Raised}
 use Rattle.trial.specs.Left.{Table}
 use Rattle.search.specs.Marks.{Half, Asked, TakenMarks, Standing}
 
@@ -49,37 +49,35 @@ module _ {ranked : Bool} {slacks : List ℕ} {n m : ℕ} {names ranks eligible :
       (λ b. eqb-true (entry slacks i l) 0 (not-false (eqb (entry slacks i l) 0) (sym (t .eligible-are .each i l hi b) ∙ e)))
       (λ b. t .slacks-are .beyond i l hi (omega arith) hl)
 
-  raised-first : (raised : List ℕ) → ((x : ℕ) → x < 1024 → getD raised x 0 ≡ raisedOf (getD slacks x 0)) → length raised ≡ 1024
-      → Raised slacks eligible raised
-  raised-first raised h long = record {
+  raised-first : {compared : List ℕ} → Compared false slacks compared → Raised slacks eligible compared
+  raised-first {compared} f = record {
     on = λ i l hi hl e.
         let (hi, hj) = t .eligible-are .inside i l e in
-        h (32 * i + l) (omega arith) ∙ rw (not-true (eqb (entry slacks i l) 0) (sym (t .eligible-are .each i l hi hj) ∙ e));
+        f .each (32 * i + l) (omega arith) ∙ rw (not-true (eqb (entry slacks i l) 0) (sym (t .eligible-are .each i l hi hj) ∙ e));
     gone = λ i j l on hl e.
         let hi = t .eligible-are .inside i j on .0 in
-        h (32 * i + l) (omega (arith, t .slacks-are .lots-few)) ∙ rw (eq-eqb (entry slacks i l) 0 (no-slack i l hi hl e));
+        f .each (32 * i + l) (omega (arith, t .slacks-are .lots-few)) ∙ rw (eq-eqb (entry slacks i l) 0 (no-slack i l hi hl e));
     low = λ x. by-cases (decLt x 1024)
-        (λ lt. omega (arith, h x lt, raised-le (eqb (getD slacks x 0) 0) (getD slacks x 0), t .slacks-are .capped x))
-        (λ o. omega (arith, List·getD-eq-default {A = ℕ} raised 0 {n = x} (omega arith)));
+        (λ lt. omega (arith, f .each x lt, raised-le (eqb (getD slacks x 0) 0) (getD slacks x 0), t .slacks-are .capped x))
+        (λ o. omega (arith, List·getD-eq-default {A = ℕ} compared 0 {n = x} (omega (arith, f .long))));
   }
     where
       raised-le : (b : Bool) (v : ℕ) → cond b 0 (v + suc costTop) ≤ v + suc costTop
       raised-le b v = elim b [ true ↦ omega arith | false ↦ omega arith ]
 
-  module _ {lines nears fars raised : List ℕ} (lined : Lined names ranks eligible lines) (ended : Ended names lines nears fars)
-      (raises : ranked ≡ false → (x : ℕ) → x < 1024 → getD raised x 0 ≡ raisedOf (getD slacks x 0)) (long : length raised ≡ 1024)
-      (filled : ranked ≡ true → Filled slacks raised) where
-    pub standing-first : Standing ranked slacks names ranks eligible eligible lines nears fars raised (replicate 1024 0) (replicate 32 0)
+  module _ {lines nears fars compared : List ℕ} (lined : Lined names ranks eligible lines) (ended : Ended names lines nears fars)
+      (f : Compared ranked slacks compared) where
+    pub standing-first : Standing ranked slacks names ranks eligible eligible lines nears fars compared (replicate 1024 0) (replicate 32 0)
         (replicate 32 0) (replicate 32 0) (replicate 32 0)
     standing-first = record {
       left = record {
         among = λ i j e. e;
         lined = lined;
         ended = ended;
-        raised-is = λ e. raised-first raised (raises e) long;
-        costs-are = filled;
+        raised-is = λ e. raised-first (rw e at f);
+        costs-are = λ e. rw e at f;
         lefts-long = t .eligible-are .long;
-        raised-long = long;
+        compared-long = f .long;
       };
       passed-is = record {
         each = λ i j p hi hj lt. absurd (omega (arith, zeros-at 1024 (32 * i + j)));

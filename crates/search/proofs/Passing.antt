@@ -19,8 +19,8 @@ use Rattle.trial.specs.Testing.{Passes}
 use Rattle.trial.specs.Left.{Table, Left}
 use Rattle.search.specs.Steps.{FirstPair}
 
-module _ {ranked : Bool} {slacks : List ℕ} {n m : ℕ} {names ranks eligible lefts lines nears fars raised : List ℕ}
-    (t : Table ranked slacks n m names ranks eligible) (h : Left ranked slacks names ranks eligible lefts lines nears fars raised) where
+module _ {ranked : Bool} {slacks : List ℕ} {n m : ℕ} {names ranks eligible lefts lines nears fars compared : List ℕ}
+    (t : Table ranked slacks n m names ranks eligible) (h : Left ranked slacks names ranks eligible lefts lines nears fars compared) where
   abbrev P : Problem
   P = bySlacks slacks n m
 

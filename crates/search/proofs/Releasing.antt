@@ -1,5 +1,5 @@
 -- The marks with a call taken back, lot by lot: those of the lots passed are, and no other.
-use mathlib.Core.Path.{_≡_, refl, ap, _∙_, subst, fun-ext}
+use mathlib.Core.Path.{_≡_, refl, sym, ap, _∙_, subst, fun-ext}
 use mathlib.Core.Logic.{by-cases}
 use mathlib.Core.Bool.{Bool, true, not, _&&_, _||_, and-true, and-false, and-not-self, or-false}
 use mathlib.Core.List.{List}

@@ -22,18 +22,18 @@ use Rattle.search.proofs.Trials.{or-elim}
 
 module _ {i j : ℕ} {lefts lefts′ : List ℕ} (t : TakenFrom i j lefts lefts′) where
   -- the raised slack of the pair is 0
-  raised-then : {slacks raised : List ℕ} → i < 32 → j < 32 → length raised ≡ 1024 → Raised slacks lefts raised → Raised slacks lefts′ (set raised (32 * i + j) 0)
-  raised-then {slacks} {raised} hi hj long r = record {
+  raised-then : {slacks compared : List ℕ} → i < 32 → j < 32 → length compared ≡ 1024 → Raised slacks lefts compared → Raised slacks lefts′ (set compared (32 * i + j) 0)
+  raised-then {slacks} {compared} hi hj long r = record {
     on = λ a l ha hl e. other a l hl (λ z. true≢false (sym e ∙ gone t a l z)) ∙ r .on a l ha hl (fewer t a l e);
     gone = λ a x l on hl e. ⊎-elim (λ z. rw (z .0, z .1) own) (λ d. other a l hl d ∙ r .gone a x l (fewer t a x on) hl (sym (stays t a l d) ∙ e)) (same-pair a l i j);
-    low = λ x. by-cases (ℕ-discrete x (32 * i + j)) (λ z. rw (z, own) (omega arith)) (λ d. rw (getD-set-other raised (32 * i + j) x 0 0 d) (r .low x));
+    low = λ x. by-cases (ℕ-discrete x (32 * i + j)) (λ z. rw (z, own) (omega arith)) (λ d. rw (getD-set-other compared (32 * i + j) x 0 0 d) (r .low x));
   }
     where
-      own : getD (set raised (32 * i + j) 0) (32 * i + j) 0 ≡ 0
-      own = getD-set-same raised (32 * i + j) 0 0 (omega arith)
+      own : getD (set compared (32 * i + j) 0) (32 * i + j) 0 ≡ 0
+      own = getD-set-same compared (32 * i + j) 0 0 (omega arith)
 
-      other : (a l : ℕ) → l < 32 → ((a ≡ i) × (l ≡ j) → ⊥) → getD (set raised (32 * i + j) 0) (32 * a + l) 0 ≡ getD raised (32 * a + l) 0
-      other a l hl d = getD-set-other raised (32 * i + j) (32 * a + l) 0 0 (λ z. d (omega arith, omega arith))
+      other : (a l : ℕ) → l < 32 → ((a ≡ i) × (l ≡ j) → ⊥) → getD (set compared (32 * i + j) 0) (32 * a + l) 0 ≡ getD compared (32 * a + l) 0
+      other a l hl d = getD-set-other compared (32 * i + j) (32 * a + l) 0 0 (λ z. d (omega arith, omega arith))
 
   -- what hinders a pair whose mark stays is left, and by ranks it stays at the ends
   half-then : {ranked : Bool} {slacks nears nears′ fars fars′ taken other waits waits′ marks marks′ : List ℕ} {again : ℕ} → Half ranked slacks lefts nears fars waits marks
@@ -74,26 +74,26 @@ module _ {i j : ℕ} {lefts lefts′ : List ℕ} (t : TakenFrom i j lefts lefts�
     long = length-set taken (32 * i + j) 1 ∙ m .long;
   }
 
-lowered-long : (raised : List ℕ) (x : ℕ) (b : Bool) → length raised ≡ 1024 → length (cond b raised (set raised x 0)) ≡ 1024
-lowered-long raised x true e = e
-lowered-long raised x false e = length-set raised x 0 ∙ e
+lowered-long : (compared : List ℕ) (x : ℕ) (b : Bool) → length compared ≡ 1024 → length (cond b compared (set compared x 0)) ≡ 1024
+lowered-long compared x true e = e
+lowered-long compared x false e = length-set compared x 0 ∙ e
 
 -- all that is kept, and the lots to be asked
-module _ {ranked : Bool} {names ranks : List ℕ} {i j : ℕ} {lefts lefts′ lines′ nears nears′ fars fars′ raised raised′ taken taken′ lows′ highs′ low low′ high high′ : List ℕ} {again : ℕ}
-    (t : Taken ranked names ranks i j lefts lefts′ lines′ nears nears′ fars fars′ raised raised′ taken taken′ lows′ highs′ low low′ high high′ again) where
+module _ {ranked : Bool} {names ranks : List ℕ} {i j : ℕ} {lefts lefts′ lines′ nears nears′ fars fars′ compared compared′ taken taken′ lows′ highs′ low low′ high high′ : List ℕ} {again : ℕ}
+    (t : Taken ranked names ranks i j lefts lefts′ lines′ nears nears′ fars fars′ compared compared′ taken taken′ lows′ highs′ low low′ high high′ again) where
   pub standing-then : {slacks eligible lines passed lows highs : List ℕ} → i < 32 → j < 32
-      → Standing ranked slacks names ranks eligible lefts lines nears fars raised passed lows highs low high
-      → Standing ranked slacks names ranks eligible lefts′ lines′ nears′ fars′ raised′ passed lows′ highs′ low′ high′
+      → Standing ranked slacks names ranks eligible lefts lines nears fars compared passed lows highs low high
+      → Standing ranked slacks names ranks eligible lefts′ lines′ nears′ fars′ compared′ passed lows′ highs′ low′ high′
   standing-then hi hj s = let from = t .from-lot in
       record {
         left = record {
           among = λ a l e. s .left .among a l (fewer from a l e);
           lined = t .lined;
           ended = t .ended;
-          raised-is = λ e. rw (t .lowered, e) (raised-then from hi hj (s .left .raised-long) (s .left .raised-is e));
+          raised-is = λ e. rw (t .lowered, e) (raised-then from hi hj (s .left .compared-long) (s .left .raised-is e));
           costs-are = λ e. rw (t .lowered, e) (s .left .costs-are e);
           lefts-long = from .long ∙ s .left .lefts-long;
-          raised-long = rw (t .lowered) (lowered-long raised (32 * i + j) ranked (s .left .raised-long));
+          compared-long = rw (t .lowered) (lowered-long compared (32 * i + j) ranked (s .left .compared-long));
         };
         passed-is = record {
           each = λ a l p ha hl lt. record { fits = λ e c f. s .passed-is .each a l p ha hl lt .fits (fewer from _ l e) c (fewer from a c f) };

@@ -41,7 +41,7 @@ pub record TakenMarks (eligible lefts taken : List ℕ) : Type 0 where
   pub long : length taken ≡ 1024
 
 -- all that is kept beside them
-pub record Standing (ranked : Bool) (slacks names ranks eligible lefts lines nears fars raised passed lows highs low high : List ℕ) : Type 0 where
-  pub left : Left ranked slacks names ranks eligible lefts lines nears fars raised
+pub record Standing (ranked : Bool) (slacks names ranks eligible lefts lines nears fars compared passed lows highs low high : List ℕ) : Type 0 where
+  pub left : Left ranked slacks names ranks eligible lefts lines nears fars compared
   pub passed-is : Passed slacks names lefts passed
   pub marks : Marks ranked slacks lefts nears fars lows highs low high

@@ -69,13 +69,13 @@ pub record Unmarked (ranked : Bool) (i j row column : ℕ) (taken other waits′
 -- (i, j) is taken: it is lost, its raised slack, without ranks, is 0, it is marked as taken, and the marks of hindered pairs that may be gone with it are
 -- taken back, in either half
 pub record Taken (ranked : Bool) (names ranks : List ℕ) (i j : ℕ)
-    (lefts lefts′ lines′ nears nears′ fars fars′ raised raised′ taken taken′ lows′ highs′ low low′ high high′ : List ℕ) (again : ℕ) : Type 0 where
+    (lefts lefts′ lines′ nears nears′ fars fars′ compared compared′ taken taken′ lows′ highs′ low low′ high high′ : List ℕ) (again : ℕ) : Type 0 where
   pub from-lot : TakenFrom i j lefts lefts′
   pub lined : Lined names ranks lefts′ lines′
   pub ended : Ended names lines′ nears′ fars′
   pub nears-kept : EndsKept i j lefts′ nears nears′
   pub fars-kept : EndsKept i j lefts′ fars fars′
-  pub lowered : raised′ ≡ cond ranked raised (set raised (32 * i + j) 0)
+  pub lowered : compared′ ≡ cond ranked compared (set compared (32 * i + j) 0)
   pub mark-put : taken′ ≡ set taken (32 * i + j) 1
   pub low-again : ℕ
   pub high-again : ℕ

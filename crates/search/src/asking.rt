@@ -53,7 +53,7 @@ fn first_call(
     lines: &[u32; LINES],
     nears: &[u8; LINES],
     fars: &[u8; LINES],
-    raised: &[u32; PAIRS],
+    compared: &[u32; PAIRS],
     lot: Lot,
     passed: &mut [u8; PAIRS],
     lows: &mut [u32; SIDE],
@@ -62,11 +62,11 @@ fn first_call(
     high: &mut [u32; SIDE],
 ) -> First
     requires { ⌜ Tabled ranked (now slacks) (now names) (now ranks) (now eligible) × (lot .0 < 32) ⌝ }
-    requires { ⌜ Standing ranked (now slacks) (now names) (now ranks) (now eligible) (now lefts) (now lines) (now nears) (now fars) (now raised)
+    requires { ⌜ Standing ranked (now slacks) (now names) (now ranks) (now eligible) (now lefts) (now lines) (now nears) (now fars) (now compared)
         (now passed) (now lows) (now highs) (now low) (now high) ⌝ }
     ensures { λ r. ⌜ FirstIs (now (slacks .entry)) (now (lefts .entry)) (lot .0) (now (low .entry)) (now (low .exit)) (now (high .entry)) (now (high .exit)) r ⌝ }
     ensures { λ r. ⌜ Standing ranked (now (slacks .entry)) (now (names .entry)) (now (ranks .entry)) (now (eligible .entry)) (now (lefts .entry))
-        (now (lines .entry)) (now (nears .entry)) (now (fars .entry)) (now (raised .entry)) (now (passed .exit)) (now (lows .exit))
+        (now (lines .entry)) (now (nears .entry)) (now (fars .entry)) (now (compared .entry)) (now (passed .exit)) (now (lows .exit))
         (now (highs .exit)) (now (low .exit)) (now (high .exit)) ⌝ }
 {
     let i = lot.0;
@@ -83,7 +83,7 @@ fn first_call(
             lines,
             nears,
             fars,
-            raised,
+            compared,
             Lot(i),
             Call(j),
             passed,
@@ -109,7 +109,7 @@ pub fn next_pair(
     lines: &[u32; LINES],
     nears: &[u8; LINES],
     fars: &[u8; LINES],
-    raised: &[u32; PAIRS],
+    compared: &[u32; PAIRS],
     some: u32,
     passed: &mut [u8; PAIRS],
     lows: &mut [u32; SIDE],
@@ -118,11 +118,11 @@ pub fn next_pair(
     high: &mut [u32; SIDE],
 ) -> Next
     requires { ⌜ Tabled ranked (now slacks) (now names) (now ranks) (now eligible) × Asked (now lefts) (now low) (now high) some ⌝ }
-    requires { ⌜ Standing ranked (now slacks) (now names) (now ranks) (now eligible) (now lefts) (now lines) (now nears) (now fars) (now raised)
+    requires { ⌜ Standing ranked (now slacks) (now names) (now ranks) (now eligible) (now lefts) (now lines) (now nears) (now fars) (now compared)
         (now passed) (now lows) (now highs) (now low) (now high) ⌝ }
     ensures { λ r. ⌜ NextIs (now (slacks .entry)) (now (lefts .entry)) (now (low .exit)) (now (high .exit)) r ⌝ }
     ensures { λ r. ⌜ Standing ranked (now (slacks .entry)) (now (names .entry)) (now (ranks .entry)) (now (eligible .entry)) (now (lefts .entry))
-        (now (lines .entry)) (now (nears .entry)) (now (fars .entry)) (now (raised .entry)) (now (passed .exit)) (now (lows .exit))
+        (now (lines .entry)) (now (nears .entry)) (now (fars .entry)) (now (compared .entry)) (now (passed .exit)) (now (lows .exit))
         (now (highs .exit)) (now (low .exit)) (now (high .exit)) ⌝ }
 {
     let mut lots = some;
@@ -138,7 +138,7 @@ pub fn next_pair(
             lines,
             nears,
             fars,
-            raised,
+            compared,
             Lot(i),
             passed,
             lows,

@@ -14,21 +14,19 @@ use slacks::put;
 use specification::Call;
 use specification::Lot;
 use taking::take_pair;
-use trial::raise;
 use words::below;
 use words::either;
 ghost use mathlib.Core.Path.{_≡_};
-ghost use mathlib.Core.Bool.{true};
 ghost use Prim.Native.Nat.{_≤_};
 ghost use lib.ListN.{length};
 ghost use Rattle.transport.specs.Finder.{size, find};
 ghost use Rattle.slacks.specs.Slacks.{bySlacks};
 ghost use Rattle.slacks.specs.Found.{Finds};
-ghost use Rattle.ranks.specs.Numbered.{Filled};
+ghost use Rattle.ranks.specs.Numbered.{Compared};
 ghost use Rattle.trial.specs.Left.{Table};
 
 // An order of the eligible pairs: the count of its pairs, with two bytes a pair, lot and call, at the start of the array; or nothing where
-// there is none. With `ranked` the slacks are Monge by the ranks, and `raised` holds the costs, gaps filled.
+// there is none. With `ranked` the slacks are Monge by the ranks, and `compared`, the table that trials compare, holds the costs, gaps filled.
 pub fn find_pairs(
     slacks: &[u32; PAIRS],
     n: usize,
@@ -38,12 +36,11 @@ pub fn find_pairs(
     names: &[u8; LINES],
     ranks: &[u8; LINES],
     eligible: [u32; SIDE],
-    raised: &mut [u32; PAIRS],
+    compared: &mut [u32; PAIRS],
     pairs: &mut [u8],
 ) -> Search
     requires { ⌜ Table ranked (now slacks) n m (now names) (now ranks) eligible ⌝ }
-    requires { ⌜ (length (now raised) ≡ 1024) × (ranked ≡ true → Filled (now slacks) (now raised)) ⌝ }
-    requires { ⌜ (total ≡ size (bySlacks (now slacks) n m)) × (2048 ≤ length (now pairs)) ⌝ }
+    requires { ⌜ Compared ranked (now slacks) (now compared) × (total ≡ size (bySlacks (now slacks) n m)) × (2048 ≤ length (now pairs)) ⌝ }
     ensures { λ r. ⌜ Finds (find (bySlacks (now (slacks .entry)) n m)) r (now (pairs .exit)) ⌝ }
 {
     // By line: the ranks left to it, and the names of the lowest and the highest.
@@ -61,7 +58,6 @@ pub fn find_pairs(
         &mut nears,
         &mut fars,
     );
-    raise(slacks, ranked, raised);
     // By lot, a row of `SIDE` calls: below which rank all lots let a pair pass.
     let mut passed: [u8; PAIRS] = [0; PAIRS];
     // By lot, in the same way: 1 for a pair that is taken.
@@ -88,7 +84,7 @@ pub fn find_pairs(
             &lines,
             &nears,
             &fars,
-            raised,
+            compared,
             some,
             &mut passed,
             &mut lows,
@@ -111,7 +107,7 @@ pub fn find_pairs(
             &mut lines,
             &mut nears,
             &mut fars,
-            raised,
+            compared,
             &mut taken,
             &mut lows,
             &mut highs,

@@ -88,12 +88,12 @@ fn unmark(
 }
 
 // The raised slack of a pair that is taken becomes 0; with ranks there is none.
-fn lower(ranked: bool, lot: Lot, call: Call, raised: &mut [u32; PAIRS])
-    requires { ⌜ (lot .0 < 32) × (call .0 < 32) × (length (now raised) ≡ 1024) ⌝ }
-    ensures { λ r. ⌜ now (raised .exit) ≡ cond ranked (now (raised .entry)) (set (now (raised .entry)) (32 * lot .0 + call .0) 0) ⌝ }
+fn lower(ranked: bool, lot: Lot, call: Call, compared: &mut [u32; PAIRS])
+    requires { ⌜ (lot .0 < 32) × (call .0 < 32) × (length (now compared) ≡ 1024) ⌝ }
+    ensures { λ r. ⌜ now (compared .exit) ≡ cond ranked (now (compared .entry)) (set (now (compared .entry)) (32 * lot .0 + call .0) 0) ⌝ }
 {
     if !ranked {
-        raised[SIDE * lot.0 + call.0] = 0;
+        compared[SIDE * lot.0 + call.0] = 0;
     }
 }
 
@@ -108,7 +108,7 @@ pub fn take_pair(
     lines: &mut [u32; LINES],
     nears: &mut [u8; LINES],
     fars: &mut [u8; LINES],
-    raised: &mut [u32; PAIRS],
+    compared: &mut [u32; PAIRS],
     taken: &mut [u8; PAIRS],
     lows: &mut [u32; SIDE],
     highs: &mut [u32; SIDE],
@@ -117,9 +117,9 @@ pub fn take_pair(
 ) -> u32
     requires { ⌜ Lined (now names) (now ranks) (now lefts) (now lines) × Ended (now names) (now lines) (now nears) (now fars) ⌝ }
     requires { ⌜ (lot .0 < 32) × (call .0 < 32) × (isLeft (now lefts) (lot .0) (call .0) ≡ true) × (length (now lefts) ≡ 32) ⌝ }
-    requires { ⌜ Waiting (now lows) (now low) × Waiting (now highs) (now high) × (length (now raised) ≡ 1024) × (length (now taken) ≡ 1024) ⌝ }
+    requires { ⌜ Waiting (now lows) (now low) × Waiting (now highs) (now high) × (length (now compared) ≡ 1024) × (length (now taken) ≡ 1024) ⌝ }
     ensures { λ r. ⌜ Taken ranked (now (names .entry)) (now (ranks .entry)) (lot .0) (call .0) (now (lefts .entry)) (now (lefts .exit)) (now (lines .exit))
-        (now (nears .entry)) (now (nears .exit)) (now (fars .entry)) (now (fars .exit)) (now (raised .entry)) (now (raised .exit))
+        (now (nears .entry)) (now (nears .exit)) (now (fars .entry)) (now (fars .exit)) (now (compared .entry)) (now (compared .exit))
         (now (taken .entry)) (now (taken .exit)) (now (lows .exit)) (now (highs .exit)) (now (low .entry)) (now (low .exit))
         (now (high .entry)) (now (high .exit)) r ⌝ }
 {
@@ -130,7 +130,7 @@ pub fn take_pair(
     let top = nears[SIDE + j];
     let bottom = fars[SIDE + j];
     lose(names, ranks, Lot(i), Call(j), lefts, lines, nears, fars);
-    lower(ranked, Lot(i), Call(j), raised);
+    lower(ranked, Lot(i), Call(j), compared);
     taken[SIDE * i + j] = 1;
     let in_low = unmark(
         ranked,

@@ -24,8 +24,8 @@ use Rattle.trial.specs.Testing.{Fitting, LetsPass, Passes, Misfits}
 use Rattle.trial.specs.Left.{Trying, Halves, ToAsk, Passed}
 use Rattle.trial.proofs.Lefts.{cap, left-in, left-few, own-few, has-slack, on-line}
 
-module _ {ranked : Bool} {slacks names ranks eligible lefts lines nears fars raised : List ℕ} {i j : ℕ}
-    (t : Trying ranked slacks names ranks eligible lefts lines nears fars raised i j) where
+module _ {ranked : Bool} {slacks names ranks eligible lefts lines nears fars compared : List ℕ} {i j : ℕ}
+    (t : Trying ranked slacks names ranks eligible lefts lines nears fars compared i j) where
   -- lot k, which still has call j: it hinders the pair at a call left to lot i, or lets it pass
   module _ (k : ℕ) (held : isLeft lefts k j ≡ true) (plain : ranked ≡ false) where
     eligible-is : (l : ℕ) → isLeft lefts i l ≡ true → isLeft eligible k l ≡ remains slacks k l
@@ -45,7 +45,7 @@ module _ {ranked : Bool} {slacks names ranks eligible lefts lines nears fars rai
         let left = and-left (isLeft lefts i l) _ on in
         hinders l left (λ f. true≢false (sym (and-right (isLeft lefts i l) _ on) ∙ ap not (eligible-is l left ∙ f .has-slack)))
 
-    pub hinders-misfit : {found : Bool} → Misfits slacks raised i j k 32 found → found ≡ true → Halves ranked slacks lefts nears fars i j true false
+    pub hinders-misfit : {found : Bool} → Misfits slacks compared i j k 32 found → found ≡ true → Halves ranked slacks lefts nears fars i j true false
     hinders-misfit r h =
         let (l, hl, m) = r .some h in
         let q = t .left .raised-is plain in
@@ -53,7 +53,7 @@ module _ {ranked : Bool} {slacks names ranks eligible lefts lines nears fars rai
         (λ e. hinders l e (λ f. omega (arith, q .on i l (own-few t .0) hl e, f .no-dearer)))
         (λ d. absurd (omega (arith, q .gone i j l (t .is-left) hl (false-of (isLeft lefts i l) d), cap t k j)))
 
-    pub lets-pass : {word : ℕ} {found : Bool} → Minus (getD lefts i 0) (getD eligible k 0) word → word ≤ 0 → Misfits slacks raised i j k 32 found
+    pub lets-pass : {word : ℕ} {found : Bool} → Minus (getD lefts i 0) (getD eligible k 0) word → word ≤ 0 → Misfits slacks compared i j k 32 found
         → found ≡ false → LetsPass slacks lefts i j k
     lets-pass {word} w h r z = record {
       fits = λ e l on. let (hi, hl) = left-few t i l on in

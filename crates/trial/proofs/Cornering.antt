@@ -22,7 +22,7 @@ use Rattle.slacks.specs.Slacks.{bySlacks}
 use Rattle.slacks.proofs.BySlacks.{remains-says, admits-is}
 use Rattle.words.specs.Lefts.{isLeft}
 use Rattle.words.proofs.Ends.{lowest-le, highest-ge, lowest-from, highest-from}
-use Rattle.ranks.specs.Numbered.{Filled, Low, fitsBy}
+use Rattle.ranks.specs.Numbered.{Compared, Low, fitsBy}
 use Rattle.ranks.proofs.Ranking.{low-of}
 use Rattle.lines.specs.Lines.{OnLine, EndsOf}
 use Rattle.trial.specs.Testing.{Fitting, Passes, Hinders}
@@ -48,8 +48,8 @@ line-ends {names} {ranks} {across} {word} {near} {far} {In} ends to from x in-x 
       greatest = λ y in-y. omega (arith, highest-ge word high (getD ranks (across + y) 0) h (to y in-y .is-on));
     })
 
-module _ {ranked : Bool} {slacks names ranks eligible lefts lines nears fars raised : List ℕ} {i j : ℕ}
-    (t : Trying ranked slacks names ranks eligible lefts lines nears fars raised i j) (is : ranked ≡ true) where
+module _ {ranked : Bool} {slacks names ranks eligible lefts lines nears fars compared : List ℕ} {i j : ℕ}
+    (t : Trying ranked slacks names ranks eligible lefts lines nears fars compared i j) (is : ranked ≡ true) where
   abbrev P : Problem
   P = bySlacks slacks (t .tabled .lots) (t .tabled .calls)
 
@@ -73,9 +73,9 @@ module _ {ranked : Bool} {slacks names ranks eligible lefts lines nears fars rai
       (remains-of i j (t .is-left)))
 
   abbrev costs : List ℕ
-  costs = raised
+  costs = compared
 
-  filled : Filled slacks costs
+  filled : Compared true slacks costs
   filled = t .left .costs-are is
 
   -- a pair has its cost, or is a gap

@@ -11,8 +11,8 @@ use Rattle.slacks.specs.Slacks.{remains}
 use Rattle.words.specs.Lefts.{isLeft}
 use Rattle.trial.specs.Left.{Trying}
 
-module _ {ranked : Bool} {slacks names ranks eligible lefts lines nears fars raised : List ℕ} {i j : ℕ}
-    (t : Trying ranked slacks names ranks eligible lefts lines nears fars raised i j) where
+module _ {ranked : Bool} {slacks names ranks eligible lefts lines nears fars compared : List ℕ} {i j : ℕ}
+    (t : Trying ranked slacks names ranks eligible lefts lines nears fars compared i j) where
   pub cap : (k l : ℕ) → entry slacks k l ≤ 2000001
   cap k l = t .tabled .table .slacks-are .capped (32 * k + l)
 

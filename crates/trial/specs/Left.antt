@@ -11,7 +11,7 @@ use Rattle.specification.specs.Book.{bit}
 use Rattle.book.specs.Table.{entry}
 use Rattle.slacks.specs.Slacks.{bySlacks, Slacks, Eligible}
 use Rattle.words.specs.Lefts.{isLeft}
-use Rattle.ranks.specs.Numbered.{Numbered, Plain, Filled}
+use Rattle.ranks.specs.Numbered.{Numbered, Plain, Compared}
 use Rattle.lines.specs.Lines.{Lined, Ended}
 use Rattle.trial.specs.Testing.{LetsPass, Passes, Hinders, Raised}
 use Rattle.trial.specs.declared.Trial.{Trial}
@@ -31,15 +31,15 @@ pub record Tabled (ranked : Bool) (slacks names ranks eligible : List ℕ) : Typ
   pub calls : ℕ
   pub table : Table ranked slacks lots calls names ranks eligible
 
--- what is left, in words, by lines with their ends, and by raised slacks; where there are ranks, the costs stand in their place, with gaps filled
-pub record Left (ranked : Bool) (slacks names ranks eligible lefts lines nears fars raised : List ℕ) : Type 0 where
+-- what is left, in words, by lines with their ends, and in what trials compare: with ranks the costs of all pairs, without the raised slacks of those left
+pub record Left (ranked : Bool) (slacks names ranks eligible lefts lines nears fars compared : List ℕ) : Type 0 where
   pub among : (i j : ℕ) → isLeft lefts i j ≡ true → isLeft eligible i j ≡ true
   pub lined : Lined names ranks lefts lines
   pub ended : Ended names lines nears fars
-  pub raised-is : ranked ≡ false → Raised slacks lefts raised
-  pub costs-are : ranked ≡ true → Filled slacks raised
+  pub raised-is : ranked ≡ false → Raised slacks lefts compared
+  pub costs-are : ranked ≡ true → Compared true slacks compared
   pub lefts-long : length lefts ≡ 32
-  pub raised-long : length raised ≡ 1024
+  pub compared-long : length compared ≡ 1024
 
 -- the lots of the ranks below its number let a pair pass
 pub record Passed (slacks names lefts passed : List ℕ) : Type 0 where
@@ -69,9 +69,9 @@ TrialOf ranked slacks lefts nears fars i j Free = Passes slacks lefts i j
 TrialOf ranked slacks lefts nears fars i j (Hindered low high) = Halves ranked slacks lefts nears fars i j low high
 
 -- what is asked of the caller that tries (i, j): it is left, and what is kept stands
-pub record Trying (ranked : Bool) (slacks names ranks eligible lefts lines nears fars raised : List ℕ) (i j : ℕ) : Type 0 where
+pub record Trying (ranked : Bool) (slacks names ranks eligible lefts lines nears fars compared : List ℕ) (i j : ℕ) : Type 0 where
   pub tabled : Tabled ranked slacks names ranks eligible
-  pub left : Left ranked slacks names ranks eligible lefts lines nears fars raised
+  pub left : Left ranked slacks names ranks eligible lefts lines nears fars compared
   pub is-left : isLeft lefts i j ≡ true
 
 -- the ranks of the lots that are to be asked about (i, j): they are on the line of call j, and each other lot that has it lets the pair pass

@@ -1,9 +1,8 @@
 -- When a pair can be taken, by the slacks and the words of what is left, and what hinders it.
 use mathlib.Core.Path.{_≡_}
-use mathlib.Core.Bool.{Bool, true, false, cond}
+use mathlib.Core.Bool.{Bool, true, false}
 use mathlib.Core.List.{List}
 use Prim.Native.Nat.{ℕ, suc, _+_, _*_, _≤_, _<_}
-use lib.Dec.{eqb}
 use lib.ListN.{getD}
 use Rattle.specification.specs.Costs.{costTop}
 use Rattle.book.specs.Table.{entry}
@@ -31,11 +30,7 @@ pub record Hinders (slacks lefts : List ℕ) (i j k l : ℕ) : Type 0 where
   pub left : isLeft lefts i l ≡ true
   pub unfit : Fitting slacks i j k l → ⊥
 
--- the slack of a pair, raised above all others; 0 where there is none
-abbrev pub raisedOf : ℕ → ℕ
-raisedOf slack = cond (eqb slack 0) 0 (slack + suc costTop)
-
--- the slacks of the pairs left stand raised, and 0 for each other pair of a lot to which something is left
+-- the slacks of the pairs left stand raised above all others, and 0 for each other pair of a lot to which something is left
 pub record Raised (slacks lefts raised : List ℕ) : Type 0 where
   pub on : (i l : ℕ) → i < 32 → l < 32 → isLeft lefts i l ≡ true → entry raised i l ≡ entry slacks i l + suc costTop
   pub gone : (i j l : ℕ) → isLeft lefts i j ≡ true → l < 32 → isLeft lefts i l ≡ false → entry raised i l ≡ 0

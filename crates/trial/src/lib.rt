@@ -14,34 +14,18 @@ use words::lowest;
 use words::minus;
 use words::without;
 ghost use mathlib.Core.Path.{_≡_};
-ghost use mathlib.Core.Bool.{true, false};
 ghost use Prim.Native.Nat.{ℕ, suc, _+_, _*_, _≤_, _<_};
-ghost use lib.ListN.{length, getD};
+ghost use lib.ListN.{getD};
 ghost use Rattle.specification.specs.Costs.{costTop};
 ghost use Rattle.slacks.specs.Slacks.{Capped};
-ghost use Rattle.ranks.specs.Numbered.{Filled, Low, fitsBy};
-ghost use Rattle.trial.specs.Testing.{raisedOf, Misfits};
+ghost use Rattle.ranks.specs.Numbered.{Low, fitsBy};
+ghost use Rattle.trial.specs.Testing.{Misfits};
 ghost use Rattle.trial.specs.Left.{cornersTell, Trying, TrialOf, Passed};
 
 // What is told of a pair: that it is free, or whether it is hindered in the low half and in the high half.
 pub enum Trial {
     Free,
     Hindered(bool, bool),
-}
-
-// The raised slacks of all pairs, in place of what the array holds, unless there are ranks: then it holds the costs, gaps filled.
-pub fn raise(slacks: &[u32; PAIRS], ranked: bool, raised: &mut [u32; PAIRS])
-    requires { ⌜ Capped (now slacks) × (length (now raised) ≡ 1024) × (ranked ≡ true → Filled (now slacks) (now raised)) ⌝ }
-    ensures { λ r. ⌜ (ranked ≡ false → (x : ℕ) → x < 1024 → getD (now (raised .exit)) x 0 ≡ raisedOf (getD (now (slacks .entry)) x 0)) ⌝ }
-    ensures { λ r. ⌜ (length (now (raised .exit)) ≡ 1024) × (ranked ≡ true → Filled (now (slacks .entry)) (now (raised .exit))) ⌝ }
-{
-    if ranked {
-        return;
-    }
-    for x in 0..PAIRS {
-        let slack = slacks[x];
-        raised[x] = if slack == 0 { 0 } else { slack + SLACK_MOST };
-    }
 }
 
 // Whether the pair (i, j) does not fit with lot k at a call left to lot i. All calls are tried, so that there is no branch. The slack of (k, j) is
@@ -103,12 +87,12 @@ pub fn try_pair(
     lines: &[u32; LINES],
     nears: &[u8; LINES],
     fars: &[u8; LINES],
-    raised: &[u32; PAIRS],
+    compared: &[u32; PAIRS],
     lot: Lot,
     call: Call,
     passed: &mut [u8; PAIRS],
 ) -> Trial
-    requires { ⌜ Trying ranked (now slacks) (now names) (now ranks) (now eligible) (now lefts) (now lines) (now nears) (now fars) (now raised)
+    requires { ⌜ Trying ranked (now slacks) (now names) (now ranks) (now eligible) (now lefts) (now lines) (now nears) (now fars) (now compared)
         (lot .0) (call .0) ⌝ }
     requires { ⌜ Passed (now slacks) (now names) (now lefts) (now passed) ⌝ }
     ensures { λ r. ⌜ TrialOf ranked (now (slacks .entry)) (now (lefts .entry)) (now (nears .entry)) (now (fars .entry)) (lot .0) (call .0) r ⌝ }
@@ -117,7 +101,7 @@ pub fn try_pair(
     let i = lot.0;
     let j = call.0;
     if ranked {
-        return try_corners(raised, nears, fars, Lot(i), Call(j));
+        return try_corners(compared, nears, fars, Lot(i), Call(j));
     }
     if without(lefts[i], j) == 0 {
         return Trial::Free;
@@ -127,7 +111,7 @@ pub fn try_pair(
     while 0 < lots {
         let p = lowest(lots);
         let k = wide(names[p]);
-        if 0 < minus(lefts[i], eligible[k]) || misfits(slacks, raised, Lot(i), Call(j), Lot(k)) {
+        if 0 < minus(lefts[i], eligible[k]) || misfits(slacks, compared, Lot(i), Call(j), Lot(k)) {
             passed[SIDE * i + j] = p as u8;
             return Trial::Hindered(true, false);
         }

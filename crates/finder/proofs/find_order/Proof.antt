@@ -59,14 +59,19 @@ pub find-order-spec : {M : Type 1} → statement M
 find-order-spec =
     tie.close
     (tie.spec
-    (λ c κs. search needs) (λ c. search needs) (λ c. search needs) (λ c κs. search needs)
+    (λ c κs. search needs)
+    (λ c. search needs)
+    (λ c. search needs)
+    (λ c κs. search needs)
     returns
     (λ c κs. (read c .is-readable, read c .lots-is))
     (λ c. omega (arith, few c))
     (λ c. omega (arith, few c))
     (λ c. refused-replies _ _ 17 [] (found-short _ _ (gave (c .before .before)) (omega (arith, c .before .pair-count .ensures, c .if1 .taken))))
     (λ c κs. (gave (c .before .before .before), (λ e. absurd (false≢true e), long-enough (c .before))))
-    (λ c. search needs) (λ c. search needs) (λ c. search needs)
+    (λ c. search needs)
+    (λ c. search needs)
+    (λ c. search needs)
     returns-3
     (λ c. search needs)
     returns-4)

@@ -1,5 +1,5 @@
 -- `lines::by_rank` meets its contract. The invariant: the line has the ranks of those passed (`Ranking`).
-use mathlib.Core.Path.{subst⁻¹}
+use mathlib.Core.Path.{_≡_, subst⁻¹}
 use mathlib.Core.Logic.{⊎-elim}
 use native.Mathlib.Omega.{arith}
 use borrow.Author.Needs.{needs}
@@ -44,7 +44,10 @@ by-rank-spec =
     (λ w. by-rank-all (p .1) (p .2) (subst⁻¹ (Below 4294967295 _) (eqb-true _ _ (w .2 .taken)) (w .1 .ensures)))
     (c .if1 .came))
     (λ c. ranking-none)
-    (λ c κs. search needs) (λ c. search needs) (λ c. search needs) (λ c κs. search needs)
+    (λ c κs. search needs)
+    (λ c. search needs)
+    (λ c. search needs)
+    (λ c κs. search needs)
     including-requires
     (λ c κs. search needs)
     (λ c. c .without .ensures .lower (c .before .before .before .before .lowest .ensures .0 .is-in))

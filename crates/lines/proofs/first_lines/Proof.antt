@@ -59,11 +59,15 @@ first-lines-spec =
     Inv-loop
     μ-loop
     (λ c. record { few = omega arith; rows = λ a h. absurd (omega arith); columns = λ l h. absurd (omega arith); long = let p = c .pre .1 in (p .1, p .2, p .3) })
-    (λ c. omega arith) (λ c. omega arith)
+    (λ c. omega arith)
+    (λ c. omega arith)
     by-rank-requires
     (λ c κs. omega arith)
     (λ c κs. c .before .before .before .before .before .before .before .before .pre .1 .0)
     by-rank-requires-2
-    (λ c. omega arith) (λ c κs. omega arith) (λ c. omega arith) (λ c. omega arith)
+    (λ c. omega arith)
+    (λ c κs. omega arith)
+    (λ c. omega arith)
+    (λ c. omega arith)
     loop-again
     returns)

@@ -21,6 +21,9 @@ numbers-spec =
     Inv-loop
     μ-loop
     (λ c. (omega arith, filled-none refl))
-    (λ c. omega arith) (λ c. omega arith) (λ c. omega arith) (λ c. omega arith)
+    (λ c. omega arith)
+    (λ c. omega arith)
+    (λ c. omega arith)
+    (λ c. omega arith)
     (λ c. (omega arith, filled-more (c .before .loop .inv .1) _ (c .loop-test .taken) refl))
     (λ c. (c .before .loop .inv .1 .long, λ x h. c .before .loop .inv .1 .passed x (omega arith))))

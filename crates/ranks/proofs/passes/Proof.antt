@@ -18,7 +18,8 @@ pub passes-spec : {M : Type 1} → statement M
 passes-spec =
     tie.close
     (tie.spec
-    (λ c κs. search needs) (λ c κs. search needs)
+    (λ c κs. search needs)
+    (λ c κs. search needs)
     (λ c e. absurd (T-of e))
     (λ c κs. let k = numbered c in (c .before .before .before .before .pre .0, k .lots-few, k .calls-few, k .lots-named .at-below, k .calls-named .at-below))
     (λ c e. (numbered (c .before), c .all-fit .ensures e)))

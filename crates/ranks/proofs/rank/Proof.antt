@@ -9,61 +9,56 @@ use Rattle.ranks.proofs.Ranking.{plain-numbered, low-of, ranked-of}
 use Rattle.ranks.proofs.rank.Statement.{statement}
 use Rattle.ranks.proofs.rank.Tie as tie
 
-returns : tie.Need-returns
-returns c =
-    let p = c .before .before .pre in
-    let (long, plain) = c .before .numbers .ensures in
-    ((plain-numbered (p .0) long plain, p .2), ((λ e. absurd (T-of e)), λ e. plain))
+-- the numbers as they are
+module _ (c : tie.After-numbers) where
+  own : let a = c .before .args in Numbered (a .n) (a .m) (c .numbers .result) (c .numbers .result)
+  own = plain-numbered (c .before .pre .0) (c .numbers .ensures .1)
 
--- the costs stand, and there are the numbers as they are
-module _ (c : tie.After-fill) where
-  abbrev start : tie.Start
-  start = c .before .before .before .before
-
+-- the costs stand
+module _ (c : tie.After-fill2) where
   abbrev numbers : tie.After-numbers
   numbers = c .before .before .before
 
-  own : let a = start .args in Numbered (a .n) (a .m) (numbers .numbers .result) (numbers .numbers .result)
-  own = let (long, plain) = numbers .numbers .ensures in plain-numbered (start .pre .0) long plain
+returns : tie.Need-returns
+returns c = let k = c .before .before .before in ((own k, c .fill .ensures), ((λ e. absurd (T-of e)), λ e. k .numbers .ensures .1))
 
 all-fit-requires : tie.Need-all-fit-requires
 all-fit-requires c κs =
-    let k = own (c .before .before) in
-    (low-of (c .before .before .fill .ensures), k .lots-few, k .calls-few, k .lots-named .at-below, k .calls-named .at-below)
+    let k = own (numbers (c .before .before)) in
+    (low-of (c .before .before .fill2 .ensures), k .lots-few, k .calls-few, k .lots-named .at-below, k .calls-named .at-below)
 
 returns-2 : tie.Need-returns-2
 returns-2 c =
     let f = c .before .before .before .before in
-    let filled = f .fill .ensures in
-    let numbered = own f in
-    ((numbered, filled .long), ((λ e. (filled, ranked-of (start f .pre .0) filled numbered (c .before .all-fit .ensures (c .if2 .taken)))), λ e. absurd (true≢false e)))
+    let k = own (numbers f) in
+    ((k, f .fill2 .ensures), ((λ e. ranked-of (numbers f .before .pre .0) (f .fill2 .ensures) k (c .before .all-fit .ensures (c .if2 .taken))), λ e. absurd (true≢false e)))
 
 returns-3 : tie.Need-returns-3
 returns-3 c =
     let f = c .before .before .before .before .before .before .before .before .before .before .before .before .before in
-    let filled = f .fill .ensures in
-    let (numbered, fit) = c .before .passes .ensures (c .if3 .taken) in
-    ((numbered, filled .long), ((λ e. (filled, ranked-of (start f .pre .0) filled numbered fit)), λ e. absurd (true≢false e)))
+    let (k, fit) = c .before .passes .ensures (c .if3 .taken) in
+    ((k, f .fill2 .ensures), ((λ e. ranked-of (numbers f .before .pre .0) (f .fill2 .ensures) k fit), λ e. absurd (true≢false e)))
 
 returns-4 : tie.Need-returns-4
 returns-4 c =
-    let f = c .before .before .before .before .before .before .before .before .before .before .before .before .before in
-    let (long, plain) = numbers f .numbers .ensures in
-    ((own f, f .fill .ensures .long), ((λ e. absurd (T-of e)), λ e. plain))
+    let k = c .before .before .before .before .before .before .before .before .before .before .before .before .before .before .before .before .before .before in
+    ((own k, c .fill3 .ensures), ((λ e. absurd (T-of e)), λ e. k .numbers .ensures .1))
 
 pub rank-spec : {M : Type 1} → statement M
 rank-spec =
     tie.close
     (tie.spec
-    (λ c κs. search needs) (λ c. search needs)
+    (λ c κs. search needs)
+    (λ c. search needs)
     (λ c. let s = c .before .pre .0 in record { fits = omega (arith, mul-le-mul (s .lots-few) (s .calls-few)) })
+    (λ c κs. search needs)
     returns
     (λ c κs. search needs)
     all-fit-requires
     returns-2
     (λ c κs. search needs)
-    (λ c κs. let b = c .before .before .before in
-    let f = b .before .before .before .before .before .before .before .before in
-    let s = start f .pre .0 in (low-of (f .fill .ensures), s .lots-few, s .calls-few, b .by-costs .ensures))
+    (λ c κs. let f = c .before .before .before .before .before .before .before .before .before .before .before in
+    let s = numbers f .before .pre .0 in (low-of (f .fill2 .ensures), s .lots-few, s .calls-few))
     returns-3
+    (λ c κs. let f = c .before .before .before .before .before .before .before .before .before .before .before .before .before .before in (numbers f .before .pre .0 .capped, f .fill2 .ensures .long))
     returns-4)

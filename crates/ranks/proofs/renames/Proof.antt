@@ -33,13 +33,15 @@ renames-spec =
     Inv-loop
     μ-loop
     (λ c. (omega arith, λ k h. absurd (omega arith)))
-    (λ c κs. search needs) (λ c κs. search needs)
+    (λ c κs. search needs)
+    (λ c κs. search needs)
     (λ c e. absurd (T-of e))
     (λ c e. absurd (T-of e))
     (λ c κs. search needs)
     (λ c e. absurd (T-of e))
     (λ c κs. search needs)
     (λ c e. absurd (T-of e))
-    (λ c. omega arith) (λ c. omega arith)
+    (λ c. omega arith)
+    (λ c. omega arith)
     (λ c. (omega arith, below-more _ _ (search needs) (omega arith, omega arith, cc, cc)))
     returns-5)

@@ -17,16 +17,16 @@ use Rattle.search.proofs.find_pairs.Statement.{statement}
 use Rattle.search.proofs.find_pairs.Tie as tie
 
 abbrev Inv-loop : tie.InvT-loop
-Inv-loop slacks n m total ranked names ranks raised₀ pairs₀ eligible lines₀ nears₀ fars₀ passed₀ taken₀ lefts₀ lows₀ highs₀ low₀ high₀ some₀ count₀ raised pairs lines nears fars passed taken lefts lows highs low high some count =
+Inv-loop slacks n m total ranked names ranks compared₀ pairs₀ eligible lines₀ nears₀ fars₀ passed₀ taken₀ lefts₀ lows₀ highs₀ low₀ high₀ some₀ count₀ compared pairs lines nears fars passed taken lefts lows highs low high some count =
     (length pairs ≡ length pairs₀) × Going (bySlacks slacks n m) (isLeft lefts) pairs count total
-    × Standing ranked slacks names ranks eligible lefts lines nears fars raised passed lows highs low high × TakenMarks eligible lefts taken
+    × Standing ranked slacks names ranks eligible lefts lines nears fars compared passed lows highs low high × TakenMarks eligible lefts taken
     × Asked lefts low high some
 
 abbrev μ-loop : tie.MeasureT-loop
-μ-loop slacks n m total ranked names ranks raised₀ pairs₀ eligible lines₀ nears₀ fars₀ passed₀ taken₀ lefts₀ lows₀ highs₀ low₀ high₀ some₀ count₀ raised pairs lines nears fars passed taken lefts lows highs low high some count = total - count
+μ-loop slacks n m total ranked names ranks compared₀ pairs₀ eligible lines₀ nears₀ fars₀ passed₀ taken₀ lefts₀ lows₀ highs₀ low₀ high₀ some₀ count₀ compared pairs lines nears fars passed taken lefts lows highs low high some count = total - count
 
 abbrev start : tie.At-loop Inv-loop μ-loop → tie.Start Inv-loop μ-loop
-start c = c .before .before .before .before .before .before .before .before .before .before
+start c = c .before .before .before .before .before .before .before .before
 
 first-lines-requires : tie.Need-first-lines-requires Inv-loop μ-loop
 first-lines-requires c κs =
@@ -35,10 +35,9 @@ first-lines-requires c κs =
 
 loop-holds : tie.Need-loop-holds Inv-loop μ-loop
 loop-holds c =
-    let p = c .before .before .before .before .before .before .before .before .before .pre in
-    let (lined, ended) = c .before .before .before .first-lines .ensures in
-    let (raised, (long, filled)) = c .before .raise .ensures in
-    (refl, going-first (p .0) _ _ (p .1 .1 .0), standing-first (p .0) lined ended raised long filled, taken-first, asked-first (p .0) (c .below .ensures))
+    let p = c .before .before .before .before .before .before .before .pre in
+    let (lined, ended) = c .before .first-lines .ensures in
+    (refl, going-first (p .0) _ _ (p .1 .1), standing-first (p .0) lined ended (p .1 .0), taken-first, asked-first (p .0) (c .below .ensures))
 
 next-pair-requires : tie.Need-next-pair-requires Inv-loop μ-loop
 next-pair-requires c κs =
@@ -69,14 +68,14 @@ take-pair-requires c κs =
     let k = c .before .before .before .before .before .before .before .before .before .before in
     let s = asked k .next-pair .ensures .1 in
     let f = subst (NextIs _ _ _ _) (k .before .next .given .1) (asked k .next-pair .ensures .0) .0 in
-    ((s .left .lined, s .left .ended), ((f .lot-in, f .call-in, f .passes .on, s .left .lefts-long), (s .marks .low-half .waits-are, s .marks .high-half .waits-are, s .left .raised-long, top (asked k) .loop .inv .3 .long)))
+    ((s .left .lined, s .left .ended), ((f .lot-in, f .call-in, f .passes .on, s .left .lefts-long), (s .marks .low-half .waits-are, s .marks .high-half .waits-are, s .left .compared-long, top (asked k) .loop .inv .3 .long)))
 
 put-requires : tie.Need-put-requires Inv-loop μ-loop
 put-requires c κs =
     let k = c .before .before .before .before .before .before .before .before .before .before .before .before .before in
     let f = subst (NextIs _ _ _ _) (k .before .next .given .1) (asked k .next-pair .ensures .0) .0 in
     let inv = top (asked k) .loop .inv in
-    (f .lot-in, f .call-in, omega (arith, inv .1 .few, more (asked k)), omega (arith, inv .0, start (top (asked k)) .pre .1 .1 .1))
+    (f .lot-in, f .call-in, omega (arith, inv .1 .few, more (asked k)), omega (arith, inv .0, start (top (asked k)) .pre .1 .2))
 
 loop-again : tie.Need-loop-again Inv-loop μ-loop
 loop-again c =
@@ -103,11 +102,11 @@ find-pairs-spec =
     Inv-loop
     μ-loop
     first-lines-requires
-    (λ c κs. let p = c .before .before .before .before .before .before .before .pre in (p .0 .slacks-are .capped, p .1 .0 .0, p .1 .0 .1))
     (λ c κs. search needs)
     loop-holds
     next-pair-requires
-    (λ c. search needs) (λ c. search needs)
+    (λ c. search needs)
+    (λ c. search needs)
     (λ c. top (c .before .before) .loop .inv .0)
     returns
     take-pair-requires

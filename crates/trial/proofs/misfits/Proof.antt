@@ -70,6 +70,7 @@ misfits-spec =
     (λ c. let h = low c in search needs)
     (λ c κs. search needs)
     (λ c. let s = c .before .before .before .before .before .before in let h = s .pre .4 (32 * s .args .lot .0 + c .before .before .before .loop .l) in search needs)
-    (λ c. omega arith) (λ c. omega arith)
+    (λ c. omega arith)
+    (λ c. omega arith)
     loop-again
     returns)

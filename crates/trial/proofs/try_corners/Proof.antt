@@ -48,8 +48,18 @@ pub try-corners-spec : {M : Type 1} → statement M
 try-corners-spec =
     tie.close
     (tie.spec
-    (λ c. search needs) (λ c κs. search needs) (λ c. search needs) (λ c κs. search needs) (λ c. search needs) (λ c. search needs)
-    (λ c κs. search needs) (λ c. search needs) (λ c. search needs) (λ c κs. search needs) (λ c κs. search needs) (λ c κs. search needs)
+    (λ c. search needs)
+    (λ c κs. search needs)
+    (λ c. search needs)
+    (λ c κs. search needs)
+    (λ c. search needs)
+    (λ c. search needs)
+    (λ c κs. search needs)
+    (λ c. search needs)
+    (λ c. search needs)
+    (λ c κs. search needs)
+    (λ c κs. search needs)
+    (λ c κs. search needs)
     (λ c. sym (ap₂ cornersTell (c .before .if1 .taken) (c .if2 .taken)) ∙ tells (c .before .before))
     (λ c. hindered-told (c .before .before .fits2 .result) (c .before .fits3 .result) (⊎-elim (λ w. ap₂ _&&_ (w .0 .taken) (w .1 .left)) (λ w. ap (λ (b : Bool). b && c .before .fits3 .result) (w .left)) (c .if1 .came))
     ∙ tells (c .before)))

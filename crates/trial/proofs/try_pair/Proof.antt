@@ -15,11 +15,11 @@ use Rattle.trial.proofs.try_pair.Statement.{statement}
 use Rattle.trial.proofs.try_pair.Tie as tie
 
 abbrev Inv-loop : tie.InvT-loop
-Inv-loop slacks ranked names ranks eligible lefts lines nears fars raised passed₀ i j others lots₀ passed lots =
+Inv-loop slacks ranked names ranks eligible lefts lines nears fars compared passed₀ i j others lots₀ passed lots =
     ToAsk slacks ranks lefts lines i j lots × (passed ≡ passed₀)
 
 abbrev μ-loop : tie.MeasureT-loop
-μ-loop slacks ranked names ranks eligible lefts lines nears fars raised passed₀ i j others lots₀ passed lots = lots
+μ-loop slacks ranked names ranks eligible lefts lines nears fars compared passed₀ i j others lots₀ passed lots = lots
 
 few : (c : tie.Start Inv-loop μ-loop) → (c .args .lot .0 < 32) × (c .args .call .0 < 32)
 few c = own-few (c .pre .0)
@@ -111,9 +111,13 @@ try-pair-spec =
     (λ c. omega (arith, few (c .before .before .before .before .before .before .before .before)))
     (λ c. omega (arith, few (c .before .before .before .before .before .before .before .before)))
     (λ c. omega (arith, few (c .before .before .before .before .before .before .before .before)))
-    (λ c κs. search needs) (λ c κs. search needs) (λ c κs. search needs)
+    (λ c κs. search needs)
+    (λ c κs. search needs)
+    (λ c κs. search needs)
     loop-holds
-    (λ c κs. search needs) (λ c. search needs) (λ c κs. search needs)
+    (λ c κs. search needs)
+    (λ c. search needs)
+    (λ c κs. search needs)
     (λ c. omega (arith, few (s c)))
     (λ c. omega (arith, few (s c)))
     (λ c. omega (arith, asked-few (c .before)))

@@ -13,7 +13,7 @@ find-pairs-requires : tie.Need-find-pairs-requires
 find-pairs-requires c κs =
     let p = c .before .before .before .before .before .before .before .before .before .pre in
     let r = c .before .before .before .before .rank .ensures in
-    (record { slacks-are = p .0; eligible-are = p .1; numbered = r .0 .0; monge = λ e. r .1 .0 e .1; plain = r .1 .1 }, ((r .0 .1, λ e. r .1 .0 e .0), (p .2, search needs)))
+    (record { slacks-are = p .0; eligible-are = p .1; numbered = r .0 .0; monge = r .1 .0; plain = r .1 .1 }, (r .0 .1, p .2, search needs))
 
 returns : tie.Need-returns
 returns c =
@@ -42,7 +42,8 @@ find-by-slacks-spec =
     (λ c κs. let few = size-few (c .before .before .before .before .pre .0) in search needs)
     (λ c. search needs)
     find-pairs-requires
-    (λ c. search needs) (λ c. search needs)
+    (λ c. search needs)
+    (λ c. search needs)
     returns
     (λ c. search needs)
     write-order-requires

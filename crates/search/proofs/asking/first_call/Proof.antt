@@ -9,11 +9,11 @@ use Rattle.search.proofs.asking.first_call.Statement.{statement}
 use Rattle.search.proofs.asking.first_call.Tie as tie
 
 abbrev Inv-loop : tie.InvT-loop
-Inv-loop slacks ranked names ranks eligible lefts lines nears fars raised passed₀ lows₀ highs₀ low₀ high₀ i asks₀ passed lows highs low high asks =
-    Trials lefts low₀ low high₀ high i asks × Standing ranked slacks names ranks eligible lefts lines nears fars raised passed lows highs low high
+Inv-loop slacks ranked names ranks eligible lefts lines nears fars compared passed₀ lows₀ highs₀ low₀ high₀ i asks₀ passed lows highs low high asks =
+    Trials lefts low₀ low high₀ high i asks × Standing ranked slacks names ranks eligible lefts lines nears fars compared passed lows highs low high
 
 abbrev μ-loop : tie.MeasureT-loop
-μ-loop slacks ranked names ranks eligible lefts lines nears fars raised passed₀ lows₀ highs₀ low₀ high₀ i asks₀ passed lows highs low high asks = asks
+μ-loop slacks ranked names ranks eligible lefts lines nears fars compared passed₀ lows₀ highs₀ low₀ high₀ i asks₀ passed lows highs low high asks = asks
 
 try-pair-requires : tie.Need-try-pair-requires Inv-loop μ-loop
 try-pair-requires c κs =
@@ -45,12 +45,19 @@ first-call-spec =
     (tie.spec
     Inv-loop
     μ-loop
-    (λ c. omega arith) (λ c. omega arith) (λ c. omega arith) (λ c. omega arith) (λ c. omega arith) (λ c. omega arith) (λ c κs. search needs)
+    (λ c. omega arith)
+    (λ c. omega arith)
+    (λ c. omega arith)
+    (λ c. omega arith)
+    (λ c. omega arith)
+    (λ c. omega arith)
+    (λ c κs. search needs)
     (λ c κs. search needs)
     (λ c. (trials-first (c .before .either .ensures) (c .minus .ensures), c .before .before .before .before .before .pre .1))
     (λ c κs. search needs)
     try-pair-requires
-    (λ c. search needs) (λ c. search needs)
+    (λ c. search needs)
+    (λ c. search needs)
     returns
     (λ c κs. let t = c .before .before .before .before .before in
     let w = t .before .before .before .before .loop .inv .1 .marks .low-half .waits-are in (t .before .before .before .before .before .before .before .before .before .before .pre .0 .1, t .before .before .lowest .ensures .1, w .waits-long, w .long))

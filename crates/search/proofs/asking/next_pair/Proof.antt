@@ -11,11 +11,11 @@ use Rattle.search.proofs.asking.next_pair.Statement.{statement}
 use Rattle.search.proofs.asking.next_pair.Tie as tie
 
 abbrev Inv-loop : tie.InvT-loop
-Inv-loop slacks ranked names ranks eligible lefts lines nears fars raised some passed₀ lows₀ highs₀ low₀ high₀ lots₀ passed lows highs low high lots =
-    Asked lefts low high lots × Standing ranked slacks names ranks eligible lefts lines nears fars raised passed lows highs low high
+Inv-loop slacks ranked names ranks eligible lefts lines nears fars compared some passed₀ lows₀ highs₀ low₀ high₀ lots₀ passed lows highs low high lots =
+    Asked lefts low high lots × Standing ranked slacks names ranks eligible lefts lines nears fars compared passed lows highs low high
 
 abbrev μ-loop : tie.MeasureT-loop
-μ-loop slacks ranked names ranks eligible lefts lines nears fars raised some passed₀ lows₀ highs₀ low₀ high₀ lots₀ passed lows highs low high lots = lots
+μ-loop slacks ranked names ranks eligible lefts lines nears fars compared some passed₀ lows₀ highs₀ low₀ high₀ lots₀ passed lows highs low high lots = lots
 
 -- the lot that is asked
 module _ (c : tie.After-first-call Inv-loop μ-loop) where
@@ -52,7 +52,8 @@ next-pair-spec =
     (λ c κs. ((c .before .before .before .before .before .before .before .before .pre .0 .0, c .before .before .before .before .before .lowest .ensures .1), c .before .before .before .before .before .before .before .loop .inv .1))
     (λ c. search needs)
     returns
-    (λ c. search needs) (λ c κs. search needs)
+    (λ c. search needs)
+    (λ c κs. search needs)
     (λ c. c .without .ensures .lower (asked-lot (c .before .before .before) .lowest .ensures .0 .is-in))
     loop-again
     (λ c. let inv = c .before .loop .inv in (none-first (inv .1 .marks) (inv .0) (omega (arith, c .loop-test .left)), inv .1)))

@@ -8,6 +8,9 @@ pub lower-spec : {M : Type 1} → statement M
 lower-spec =
     tie.close
     (tie.spec
-    (λ c. search needs) (λ c. search needs) (λ c. search needs) (λ c. search needs)
+    (λ c. search needs)
+    (λ c. search needs)
+    (λ c. search needs)
+    (λ c. search needs)
     (λ c. rw (not-true (c .before .before .before .args .ranked) (c .before .before .if1 .taken)))
     (λ c. rw (not-false (c .before .args .ranked) (c .if1 .left))))

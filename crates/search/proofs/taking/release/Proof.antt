@@ -1,9 +1,10 @@
 -- `search::taking::release` meets its contract. The invariant: the marks of the lots passed are taken back (`Releasing`).
-use mathlib.Core.Path.{_∙_}
+use mathlib.Core.Path.{_≡_, _∙_}
 use mathlib.Core.Logic.{⊎-elim}
 use Prim.Native.Nat.{_<_}
 use borrow.Author.Needs.{needs}
 use native.Mathlib.Omega.{arith}
+use lib.ListN.{length}
 use Rattle.search.proofs.Releasing.{Releasing, releasing-none, releasing-more, releasing-all}
 use Rattle.search.proofs.taking.release.Statement.{statement}
 use Rattle.search.proofs.taking.release.Tie as tie
@@ -33,11 +34,20 @@ release-spec =
     Inv-loop
     μ-loop
     (λ c. (c .pre .0, releasing-none))
-    (λ c κs. omega arith) (λ c. omega arith) (λ c. omega arith) (λ c κs. omega arith) (λ c. omega arith)
+    (λ c κs. omega arith)
+    (λ c. omega arith)
+    (λ c. omega arith)
+    (λ c κs. omega arith)
+    (λ c. omega arith)
     (λ c. omega (arith, c .before .before .before .before .loop .inv .1 .released .long))
-    (λ c. omega arith) (λ c. omega arith)
+    (λ c. omega arith)
+    (λ c. omega arith)
     (λ c κs. tt)
-    (λ c. search needs) (λ c. search needs) (λ c. search needs) (λ c κs. omega arith) (λ c κs. omega arith)
+    (λ c. search needs)
+    (λ c. search needs)
+    (λ c. search needs)
+    (λ c κs. omega arith)
+    (λ c κs. omega arith)
     (λ c. c .without2 .ensures .lower (c .before .before .before .before .before .before .before .lowest .ensures .0 .is-in))
     loop-again
     (λ c. releasing-all (c .before .loop .inv .1) (omega arith)))

@@ -1,4 +1,5 @@
 -- `search::taking::unmark` meets its contract: what its callees ensure is what `unmarked` asks.
+use native.Mathlib.Omega.{arith}
 use borrow.Author.Needs.{needs}
 use lib.ListN.{length-set}
 use Rattle.search.proofs.Unmarking.{unmarked}
@@ -19,14 +20,19 @@ unmark-spec =
     tie.close
     (tie.spec
     (λ c κs. tt)
-    (λ c. search needs) (λ c. search needs)
+    (λ c. search needs)
+    (λ c. search needs)
     (λ c κs. tt)
-    (λ c. search needs) (λ c. search needs)
+    (λ c. search needs)
+    (λ c. search needs)
     (λ c κs. tt)
-    (λ c. search needs) (λ c. search needs)
+    (λ c. search needs)
+    (λ c. search needs)
     (λ c κs. tt)
-    (λ c. search needs) (λ c. search needs)
+    (λ c. search needs)
+    (λ c. search needs)
     (λ c κs. tt)
-    (λ c. search needs) (λ c. search needs)
+    (λ c. search needs)
+    (λ c. search needs)
     (λ c κs. let p = c .before .before .before .before .before .before .before .before .before .pre in (p .1, simp length-set (p .2 .long)))
     returns)
