@@ -1,4 +1,6 @@
 // The amounts file, read with its book.
+#![tactic(auto)]
+
 pub mod inner;
 
 ghost use Rattle.std.specs.Prelude.{◌≡◌};

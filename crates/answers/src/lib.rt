@@ -1,4 +1,6 @@
 // The answers of document 01's entry points, told in the six numbers that C is handed.
+#![tactic(auto)]
+
 ghost use Rattle.std.specs.Prelude.{◌≡◌, [], ◌∷◌};
 ghost use Rattle.specification.specs.Reply.{stated, stated_counts, stated_checked, stated_placed, stated_found};
 ghost use Rattle.book.specs.Pairs.{stated_cost};
@@ -10,7 +12,7 @@ use specification::{Checked, Counts, Found, Placed, Refusal};
 // A reply: 0 or the refusal's number; 1 for Full, 2 for Short, 3 for Covered, else 0; and up to four values, the others 0. A cost is a
 // 64-bit two's complement number.
 #[repr(C)]
-#[derive(Drop)]
+#[derive(Clone, Copy)]
 pub struct Answer {
     pub number: u32,
     pub verdict: u32,

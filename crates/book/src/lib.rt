@@ -1,4 +1,6 @@
 // The book file: reading it, the costs of one lot, and the cost of a pair.
+#![tactic(auto)]
+
 pub mod inner;
 
 ghost use Rattle.std.specs.Prelude.{◌≡◌, ◌≤◌};
@@ -11,7 +13,7 @@ use files::Step;
 use specification::{Call, Counts, Lot, Refusal};
 
 // What a book says of a lot and a call: the pair's cost, that the pair is not eligible, or that the lot or the call is not in the book.
-#[derive(Drop)]
+#[derive(Clone, Copy)]
 pub enum Cost {
     Of(i64),
     NotEligible,

@@ -1,6 +1,8 @@
 // Reads F13 and F14 of document 01, damaged books and amounts, books of version 2 (document 02, request 4), books and amounts with no lots or no
 // calls (request 5), and amounts of version 2 (request 7), and writes what each reading answers: one line a case, with the name of the example
 // or the label of docs/TRAPS.md.
+#![tactic(auto)]
+
 mod reserves;
 mod zero_counts;
 

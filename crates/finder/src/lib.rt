@@ -1,5 +1,7 @@
 // Finding an order (document 01, "Finding an order"): the free pair of lowest lot, then lowest call, is taken until none remains or none is
 // free.
+#![tactic(auto)]
+
 mod by_slacks;
 pub mod inner;
 mod writing;

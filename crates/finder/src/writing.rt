@@ -8,5 +8,5 @@ pub fn write_order(buffer: &mut [u8], pairs: &[u8], count: usize)
     ensures { buffer.new ≡ order_file (pairs_of count pairs.now) ++ drop (7 + 2 * count) buffer.old }
 {
     files::write_opening(buffer, &files::ORDER_MARK, count as u16);
-    bytes::copy(&pairs[0..2 * count], &mut buffer[7..]);
+    buffer[7..7 + 2 * count].copy_from_slice(&pairs[0..2 * count]);
 }

@@ -1,6 +1,8 @@
 // Document 01's known examples, F1 to F14, run through the entry points, a few more inputs to a run that tempt to another answer, runs with
 // an idle call (document 02, request 2), books with rebates (request 4), books with no lots or no calls (request 5), the ticket panel's runs
 // (request 6), and amounts with reserves (request 7).
+#![tactic(auto)]
+
 mod given;
 mod reserves;
 mod show;

@@ -1,5 +1,7 @@
 // What is left, by ranks: line i is lot i, with the ranks of the calls left to it, and line `SIDE` + j is call j, with the ranks of the lots that
 // still have it. For each line it is kept which number its lowest and its highest rank name.
+#![tactic(auto)]
+
 ghost use Rattle.std.specs.Prelude.{◌≡◌, true, false, ℕ, ◌+◌, ◌≤◌, ◌<◌, length};
 ghost use Rattle.specification.specs.Book.{bit};
 ghost use Rattle.words.specs.Lefts.{is_left, TakenFrom};

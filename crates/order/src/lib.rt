@@ -1,6 +1,8 @@
 // Checking an order (document 01, "Checking an order"). The pairs are checked over the book's bytes and a table of where it holds each
 // pair's cost. No cost is copied into a table: the crate `walk`, from the end of the order, keeps least differences of costs and finds the
 // lowest place at which it fails, and the crate `quadruples`, by a scan of that pair's quadruples, names the first failure.
+#![tactic(auto)]
+
 pub mod inner;
 mod places;
 

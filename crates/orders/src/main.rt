@@ -1,4 +1,6 @@
 // Checks the known examples of orders, F2 to F6 of document 01, and orders that tempt a check to err, and writes what each comes to.
+#![tactic(auto)]
+
 mod answer;
 
 ghost use Rattle.std.specs.Prelude.{◌≡◌, length};

@@ -7,7 +7,7 @@ use mathlib.Core.List.{List}
 use Prim.Native.Nat.{ℕ, ◌+◌, ◌*◌, ◌^◌, ◌≤◌, ◌<◌}
 use native.Mathlib.Decide.{dec_lt}
 use native.Mathlib.Omega.{arith}
-use borrow.Author.Tests.{eq-eqb, eqb_true}
+use borrow.Author.Tests.{eq-eqb, eqb-true}
 use lib.ListN.{length, get_or, set, length-set}
 use lib.Seq.{get_or-set_same, get_or-set_other}
 use Rattle.transport.proofs.Laws.Tests.{below_suc, false_of}
@@ -127,7 +127,7 @@ module _ {eligible lefts taken : List ℕ} {i j : ℕ} (m : TakenMarks eligible 
   -- that of (i, j) is put
   pub own_put : (a : ℕ) → a < 8 → OwnCalls put a
   own_put a ha l x hl e = ⊎_elim
-      (λ z. rw z.1 (eqb_true x j (sym (bit_single j x) ∙ rw (z.0, z.1, here) at e)))
+      (λ z. rw z.1 (eqb-true x j (sym (bit_single j x) ∙ rw (z.0, z.1, here) at e)))
       (λ d. m.own a ha l x hl (rw (elsewhere a l hl d) at e))
       (same_pair a l i j)
 

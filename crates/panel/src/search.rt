@@ -14,14 +14,14 @@ use specification::{Call, Lot};
 use words::{either, lowest, minus};
 
 // The next pair, or that there is none.
-#[derive(Drop)]
+#[derive(Clone, Copy)]
 enum Next {
     Pair(Lot, Call),
     Nothing,
 }
 
 // Whether all pairs were taken; what remains then, and the sums of what was given: units, and their cost with the limit added to that of each.
-#[derive(Drop)]
+#[derive(Clone, Copy)]
 pub struct Taken {
     pub all: bool,
     pub remaining: Remaining,

@@ -8,7 +8,7 @@ use Prim.Native.Nat.{ℕ, suc, ◌+◌, ◌*◌, ◌-◌, ◌≤◌, ◌<◌, mi
 use native.Mathlib.Decide.{ℕ_discrete, dec_lt}
 use native.Mathlib.Omega.{arith}
 use borrow.Author.Count.{below_more}
-use borrow.Author.Tests.{lt-ltb, le-ltb, eqb_true, eq-eqb, ne_eqb}
+use borrow.Author.Tests.{lt-ltb, le-ltb, eqb-true, eq-eqb, ne_eqb}
 use lib.Dec.{eqb, ltb}
 use lib.ListN.{length, get_or, set, replicate, length-set, length-replicate, get_or-replicate}
 use lib.Seq.{get_or-set_same, get_or-set_other}
@@ -160,7 +160,7 @@ module _ (slacks : List ℕ) (capped : Capped slacks) (i left first : ℕ) (b : 
   least_calls : (k low word : ℕ) → Low (gap_of slacks i k) first 0 low word → LeastCalls slacks left i k word
   least_calls k low word q = record {
     least = λ l h hl hh on_l on_h is.
-        let low_is = eqb_true (gap_of slacks i k l) low (sym (q.reached l (b.lower l hl ∙ on_l) (bit_none l)) ∙ is) in
+        let low_is = eqb-true (gap_of slacks i k l) low (sym (q.reached l (b.lower l hl ∙ on_l) (bit_none l)) ∙ is) in
         omega (arith, low_is, q.below h (b.lower h hh ∙ on_h) (bit_none h));
     all = λ l hl on f.
         let on_first : bit first l ≡ true = b.lower l hl ∙ on in

@@ -1,5 +1,7 @@
 // The ticket panel's table of slacks, for at most 8 lots and 8 calls, and the words that its search goes by: for each lot and each other the calls at
 // which the gap between them is least.
+#![tactic(auto)]
+
 pub mod filling;
 pub mod gaps;
 

@@ -1,5 +1,7 @@
 // The printing program (document 01): prints what placing the amounts of `amounts.cla` by the book `book.clb` comes to, both read from the
 // folder in which it is run.
+#![tactic(auto)]
+
 ghost use Rattle.io.specs.Counts.{IsPrefixLen};
 
 use libc::STDOUT_FILENO;

@@ -1,5 +1,7 @@
 // What a program calls: finding an order and running it in one call (document 01, "Finding an order"), also with an idle call (document 02,
 // request 2) and for the ticket panel (request 6), and the text that is printed of a run ("The printing program").
+#![tactic(auto)]
+
 ghost use Rattle.std.specs.Prelude.{◌≡◌, ◌≤◌};
 ghost use Rattle.specification.specs.Reply.{stated_counts, stated_placed};
 ghost use Rattle.specification.specs.Book.{book_lots, book_calls};
@@ -18,7 +20,7 @@ use specification::{Counts, Placed, Refusal};
 pub const TEXT_MOST: usize = 50 + 17 * 1024;
 
 // A text: the first `length` bytes.
-#[derive(Drop)]
+#[derive(Clone, Copy)]
 pub struct Printed {
     pub bytes: [u8; TEXT_MOST],
     pub length: usize,

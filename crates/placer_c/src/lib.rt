@@ -1,5 +1,7 @@
 // The entry points for C (include/placer.h). Each takes slices as a pointer and a count of elements, calls the entry point of document 01,
 // and hands its answer back as numbers.
+#![tactic(auto)]
+
 ghost use Rattle.std.specs.Prelude.{◌≡◌, take, drop};
 ghost use Rattle.specification.specs.Book.{read_book, lot_costs, pair_cost};
 ghost use Rattle.specification.specs.Amounts.{read_amounts};
@@ -17,7 +19,7 @@ use specification::{Call, Lot};
 
 // A stretch of the caller's book, in bytes.
 #[repr(C)]
-#[derive(Drop)]
+#[derive(Clone, Copy)]
 pub struct Stretch {
     pub start: usize,
     pub len: usize,

@@ -1,5 +1,7 @@
 // The text that is printed of several books and amounts: each refusal that can come, nothing placed, a few lines, costs below zero, no lots or
 // no calls, reserves, the longest files, and the most lines that a text can have.
+#![tactic(auto)]
+
 
 // Prints a label, and then the text of two files.
 fn print(label: &[u8], book: &[u8], amounts: &[u8]) {

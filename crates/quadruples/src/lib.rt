@@ -1,5 +1,7 @@
 // The quadruples of a pair (i, j), each with a lot k and a call l: the test of one (document 02, request 3), and in `scan` the first that
 // fails. They are lent the book and the table of where the book holds each pair's cost, read four costs there for a test, and keep none.
+#![tactic(auto)]
+
 pub mod scan;
 
 ghost use Rattle.std.specs.Prelude.{◌≡◌};

@@ -1,6 +1,8 @@
 // Lots and calls numbered anew, by ranks by which the book is Monge, pairs missing or not: the numbers as they are, or ranks that are guessed. They are
 // kept where the table of costs is Monge by them, its gaps filled with a number above any two costs. Else each lot and each call has its own number
 // as its rank, and there are no ranks. The table that trials compare is filled for the one or the other.
+#![tactic(auto)]
+
 mod guess;
 
 ghost use Rattle.std.specs.Prelude.{◌≡◌, ℕ, suc, ◌+◌, ◌<◌, ◌≤◌, true, false, length, slice_index};

@@ -7,7 +7,7 @@ use native.Mathlib.Omega.{arith}
 use mathlib.Core.Bool.{Bool, true, false, true≢false}
 use mathlib.Core.Logic.{⊎_elim}
 use Rattle.files.proofs.Parts.{le_or_lt}
-use borrow.Author.Tests.{eqb_true, eqb_false}
+use borrow.Author.Tests.{eqb-true, eqb-false}
 use lib.Dec.{eqb, lit<}
 use lib.Count.{ones, ones-le, ones_cat, count_trailing_zeros, under}
 use lib.Pow.{pow_pos, pow_mono, shl_exact, shr-shr}
@@ -40,11 +40,11 @@ unfolding ones
 ones_below_none word = ap ones (mod-one word)
 
 pub ones_below_set : (word j : ℕ) → bit word j ≡ true → ones_below word (j + 1) ≡ ones_below word j + 1
-ones_below_set word j e = omega (arith, ones_next word j, eqb_true (word / 2 ^ j % 2) 1 e)
+ones_below_set word j e = omega (arith, ones_next word j, eqb-true (word / 2 ^ j % 2) 1 e)
 
 pub ones_below_unset : (word j : ℕ) → bit word j ≡ false → ones_below word (j + 1) ≡ ones_below word j
 ones_below_unset word j e =
-    let n = eqb_false (word / 2 ^ j % 2) 1 e in
+    let n = eqb-false (word / 2 ^ j % 2) 1 e in
     let l = mod-lt (word / 2 ^ j) {m = 2} (lit< tt) in
     omega (arith, ones_next word j, n, l)
 

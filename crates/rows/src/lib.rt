@@ -1,5 +1,7 @@
 // One lot's row of a book. Each function of it is given the part of the book that starts at the lot's word, wherever in the file that is;
 // `all_within` serves the amounts too.
+#![tactic(auto)]
+
 pub mod word;
 
 ghost use Rattle.std.specs.Prelude.{◌≡◌, ◌+◌, ◌*◌, ◌-◌, ◌^◌, ◌≤◌, leb, length};

@@ -1,4 +1,6 @@
 // Running an order (document 01, "Running an order"): `run_order` reads and checks its inputs; past the refusals the order is run.
+#![tactic(auto)]
+
 pub mod inner;
 
 ghost use Rattle.std.specs.Prelude.{◌≡◌};

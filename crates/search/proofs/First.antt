@@ -6,7 +6,7 @@ use mathlib.Core.List.{List}
 use Prim.Native.Nat.{ℕ, suc, ◌+◌, ◌*◌, ◌≤◌, ◌<◌}
 use native.Mathlib.Decide.{dec_lt}
 use native.Mathlib.Omega.{arith}
-use borrow.Author.Tests.{eq-eqb, eqb_true, not-true, not-false}
+use borrow.Author.Tests.{eq-eqb, eqb-true, not-true, not-false}
 use lib.Dec.{eqb}
 use lib.ListN.{length, get_or, replicate, length-replicate, get_or-eq_default}
 use Rattle.specification.specs.Costs.{cost_top}
@@ -46,7 +46,7 @@ module _ {ranked : Bool} {slacks : List ℕ} {n m : ℕ} {names ranks eligible :
   -- a pair that is not eligible has no slack
   no_slack : (i l : ℕ) → i < n → l < 32 → is_left eligible i l ≡ false → entry slacks i l ≡ 0
   no_slack i l hi hl e = by_cases (dec_lt l m)
-      (λ b. eqb_true (entry slacks i l) 0 (not-false (eqb (entry slacks i l) 0) (sym (t.eligible_are.each i l hi b) ∙ e)))
+      (λ b. eqb-true (entry slacks i l) 0 (not-false (eqb (entry slacks i l) 0) (sym (t.eligible_are.each i l hi b) ∙ e)))
       (λ b. t.slacks_are.beyond i l hi (omega arith) hl)
 
   raised_first : {compared : List ℕ} → Compared false slacks compared → Raised slacks eligible compared

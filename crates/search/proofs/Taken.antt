@@ -6,7 +6,7 @@ use mathlib.Core.List.{List}
 use Prim.Native.Nat.{ℕ, ◌+◌, ◌*◌, ◌<◌}
 use native.Mathlib.Decide.{ℕ_discrete}
 use native.Mathlib.Omega.{arith}
-use borrow.Author.Tests.{eqb_true}
+use borrow.Author.Tests.{eqb-true}
 use lib.ListN.{length, get_or, set, length-set}
 use lib.Seq.{get_or-set_same, get_or-set_other}
 use Rattle.transport.proofs.Laws.Tests.{false_of, and_right}
@@ -129,5 +129,5 @@ module _ {ranked : Bool} {names ranks : List ℕ} {i j : ℕ} {lefts lefts' line
         let off = false_of (bit some k) (λ on. true≢false (sym (rw on at (more.each k)) ∙ o)) in
         let (hk, hl) = few k l e in
         still_marked k l (λ z. true≢false (sym own ∙ ap (bit some) (sym z) ∙ off)) (sym (rw off at (more.each k)) ∙ o)
-        (eqb_true _ 0 (and_right (is_left eligible k l) _ (sym (marks.each k l hk hl) ∙ e))) (asked.each k l (fewer t.from_lot k l e) off);
+        (eqb-true _ 0 (and_right (is_left eligible k l) _ (sym (marks.each k l hk hl) ∙ e))) (asked.each k l (fewer t.from_lot k l e) off);
   }

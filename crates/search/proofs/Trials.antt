@@ -7,7 +7,7 @@ use mathlib.Core.List.{List}
 use Prim.Native.Nat.{ℕ, ◌<◌}
 use native.Mathlib.Decide.{ℕ_discrete}
 use native.Mathlib.Omega.{arith}
-use borrow.Author.Tests.{eqb_true, eq-eqb, ne_eqb, not-false}
+use borrow.Author.Tests.{eqb-true, eq-eqb, ne_eqb, not-false}
 use lib.Dec.{eqb}
 use lib.ListN.{length, get_or, set, length-set}
 use lib.Seq.{get_or-set_same, get_or-set_other}
@@ -50,7 +50,7 @@ module _ {test : Bool} {i j : ℕ} {words words' : List ℕ} (q : PutIf test i j
   put_says A a l e was put = or_elim (eqb a i && (eqb l j && test)) (is_left words a l) (sym (q.each a l) ∙ e)
       (λ f.
       let g = and_right (eqb a i) _ f in
-      rw (eqb_true a i (and_left (eqb a i) _ f), eqb_true l j (and_left (eqb l j) test g)) (put (and_right (eqb l j) test g)))
+      rw (eqb-true a i (and_left (eqb a i) _ f), eqb-true l j (and_left (eqb l j) test g)) (put (and_right (eqb l j) test g)))
       was
 
 -- ---- a mark more

@@ -7,7 +7,7 @@ use mathlib.Core.List.{List}
 use Prim.Native.Nat.{ℕ, ◌<◌}
 use native.Mathlib.Decide.{ℕ_discrete}
 use native.Mathlib.Omega.{arith}
-use borrow.Author.Tests.{eqb_true, eq-eqb, not-false}
+use borrow.Author.Tests.{eqb-true, eq-eqb, not-false}
 use lib.Dec.{eqb}
 use lib.ListN.{get_or, set, length-set}
 use lib.Seq.{get_or-set_same, get_or-set_other}
@@ -42,7 +42,7 @@ unmarked {i = i} {j} {row = row} {column} {taken} {other} {waits} {marks} {marks
       let kept : is_left (set marks i word) k l ≡ true = ap (λ (w : ℕ). bit w l) (get_or-set_other marks i k word 0 d) ∙ m in
       by_cases (Bool-discrete (eqb l j && bit lots k) true)
       (λ on.
-      let z = eqb_true l j (and_left (eqb l j) _ on) in
+      let z = eqb-true l j (and_left (eqb l j) _ on) in
       let held : is_left other k j ≡ true = not-false _ (sym (and-true _) ∙ sym (rw (and_right (eqb l j) _ on, eq-eqb _ 0 (rw z at free)) at (c.again_are k)) ∙ off) in
       rw (z, held) (or-true (is_left marks' k j)))
       (λ no. rw (c.cleared k l, false_of (eqb l j && bit lots k) no, kept));

@@ -11,14 +11,14 @@ use trial::{Trial, try_pair};
 use words::{either, including_if, lowest, minus, without};
 
 // The next pair, with the lots that are still to be asked, or that there is none.
-#[derive(Drop)]
+#[derive(Clone, Copy)]
 pub enum Next {
     Pair(Lot, Call, u32),
     Nothing,
 }
 
 // The lowest call whose pair with a lot is free, or that there is none.
-#[derive(Drop)]
+#[derive(Clone, Copy)]
 pub enum First {
     At(Call),
     Nothing,

@@ -1,5 +1,7 @@
 // The search for an order over a table of slacks: the next pair is taken until none remains or none is free. Pairs that are known to be hindered
 // are marked, and are not tried again until what hinders them may be gone.
+#![tactic(auto)]
+
 mod asking;
 mod taking;
 

@@ -1,6 +1,8 @@
 // Finds orders of known examples and of books on which a finder goes wrong easily, one line a case. After the label (docs/TRAPS.md): the
 // length, mark, version and count of the file that was written with its first seven pairs, or the refusal; then how many bytes after it
 // kept their contents.
+#![tactic(auto)]
+
 ghost use Rattle.std.specs.Prelude.{◌≡◌, ◌+◌, ◌<◌, ◌≤◌, length};
 
 use specification::Found;

@@ -1,4 +1,6 @@
 // Costs with a sign (document 02, request 4). Inside a cost is a natural number, lifted by a base; it gets its sign where it is told.
+#![tactic(auto)]
+
 ghost use Rattle.std.specs.Prelude.{◌≡◌, ◌<◌, true, false, pos, ◌-ℤ◌, int_lt, unsigned_abs};
 ghost use Rattle.std.specs.Int.Signed.{mag};
 ghost use Rattle.std.specs.Int.{w64};

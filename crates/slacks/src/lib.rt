@@ -1,5 +1,7 @@
 // What ranks and the search for an order go by, a table of slacks: how far a pair's cost lies below one more than the limit, at `SIDE` times lot
 // plus call, and 0 where the pair is not eligible. The search answers with the bytes of the pairs that it found.
+#![tactic(auto)]
+
 pub mod filling;
 
 ghost use Rattle.std.specs.Prelude.{◌≡◌, ◌+◌, ◌*◌, ◌<◌, ◌≤◌, [], ◌∷◌, ◌++◌, length, take};
@@ -20,7 +22,7 @@ pub const SLACK_OF_ZERO: u32 = COST_LIMIT + 1;
 pub const SLACK_MOST: u32 = COST_LIMIT + SLACK_OF_ZERO;
 
 // How many pairs the order has, or that there is none.
-#[derive(Drop)]
+#[derive(Clone, Copy)]
 pub enum Search {
     Found(usize),
     Nothing,

@@ -90,8 +90,7 @@ allocation_within book amounts n read amounts_are s allocation =
 pub run_within : (book order amounts flow : List ℕ) (o : Outcome) → run_order book order amounts flow ≡ gives o → Small o
 run_within book order amounts flow o e =
     let gave = said_of_given (run_says book order amounts flow) o e in
-    let (n, reads) = gave.reads in
-    let (read, amounts_are) = amounts_read book amounts n reads in
+    let (n, read, amounts_are) = gave.read in
     let allocation = greedy_allocation (lists_of_order gave.passing.each_once) (lot_amount amounts) (call_amount book amounts) in
     rw gave.outcome_is (allocation_within book amounts n read amounts_are (greedy_on book (order_pairs order) amounts) allocation)
 

@@ -22,10 +22,9 @@ use Rattle.specification.specs.OrderFile.{order_count, order_pairs, order_file}
 use Rattle.specification.specs.Check.{check_order}
 use Rattle.specification.specs.Run.{run_flow}
 use Rattle.specification.specs.Find.{order_length, found_order, find_order, find_buffer, found_to_run, find_and_run, find_and_run_flow}
-use Rattle.specification.specs.Change.{change, change_amounts, change_flow}
 use Rattle.specification.specs.Idle.{found_to_run_idle, find_and_run_idle, find_and_run_idle_flow}
 use Rattle.specification.specs.Entry.{Run, by_order, by_found, idle, panel, run_reply, run_leaves, Entry, reads_book, reads_amounts, costs_pair}
-use Rattle.specification.specs.Entry.{checks, finds, runs, changes, reply_of, buffers_of}
+use Rattle.specification.specs.Entry.{checks, finds, runs, reply_of, buffers_of}
 use Rattle.specification.specs.Demands.{RanBy, InTable, Answered, Demand1, Readable, OrderShaped, Passing, returned, Demand2}
 use Rattle.specification.specs.Demands.{GoodOrder, BestOn, Demand3}
 use Rattle.specification.proofs.Replies.{
@@ -63,7 +62,6 @@ use Rattle.specification.proofs.Largest.{largest, largest_bytes, largest_length,
 use Rattle.specification.proofs.Printing.{prints, printing_not_17, digits_back, digits_each, digits_first}
 use Rattle.specification.proofs.IdleRuns.{length_find_and_run_idle_flow, ran_idle, best_idle}
 use Rattle.specification.proofs.Panels.{panel_given, panel_kept, length_panel}
-use Rattle.specification.proofs.Changes.{length_change_amounts, length_change_flow, changed_ran}
 
 -- Demand 1. A refusal leaves what is lent as it was
 found_kept : (book amounts flow : List ℕ) (k : ℕ) (vs : List ℕ) → find_and_run book amounts flow ≡ refuses k vs
@@ -80,7 +78,7 @@ run_kept idle book amounts flow k vs e = rw (refused_before (found_to_run_idle b
 run_kept panel book amounts flow k vs e = panel_kept book amounts flow k vs (found_kept book amounts flow k vs) e
 
 entry_kept : (e : Entry) (k : ℕ) (vs : List ℕ) → reply_of e ≡ refuses k vs → (buffers_of e).1 ≡ (buffers_of e).0
-unfolding find_order find_buffer change_amounts change_flow
+unfolding find_order find_buffer
 entry_kept (reads_book book) k vs refused = refl
 entry_kept (reads_amounts book amounts) k vs refused = refl
 entry_kept (costs_pair book i j) k vs refused = refl
@@ -89,7 +87,6 @@ entry_kept (finds book buffer) k vs refused =
     rw (refused_before (found_order book buffer) _ k vs (refused_before (find_order book buffer) _ k vs refused)) refl
 entry_kept (runs run book amounts flow) k vs refused =
     ap (λ s. s ∷ []) (run_kept run book amounts flow k vs (refused_before (run_reply run book amounts flow) _ k vs refused))
-entry_kept (changes book order amounts flow c) k vs refused = rw (refused_before (change book order amounts flow c) _ k vs refused) refl
 
 -- and is a line of the table
 entry_answered : (e : Entry) → Answered (reply_of e) (buffers_of e).0 (buffers_of e).1
@@ -114,8 +111,6 @@ entry_as_long (costs_pair book i j) = refl
 entry_as_long (checks book order) = refl
 entry_as_long (finds book buffer) = ap (λ long. long ∷ []) (length_find_buffer book buffer)
 entry_as_long (runs run book amounts flow) = ap (λ long. long ∷ []) (run_as_long run book amounts flow)
-entry_as_long (changes book order amounts flow c) =
-    rw (length_change_amounts book order amounts flow c, length_change_flow book order amounts flow c) refl
 
 pub demand1 : Demand1
 unfolding lot_costs
@@ -161,7 +156,6 @@ demand2 = record {
   passes = check_passes;
   only_these = check_passes_only;
   runs = ran_by;
-  changes = changed_ran;
   writes = λ book buffer n e. let w = written book buffer n e in (w.order, w.gave.found, w.contents);
   read_back = λ book buffer n e. check_passes book _ (returned_passes book buffer n e) ∙ ap gives (returned_count book buffer n e);
   by_find_and_run = λ book buffer n e amounts flow.

@@ -14,9 +14,7 @@ use Rattle.specification.specs.declared.Refusal.TheVariants as refusal
 use Rattle.specification.specs.Reply.{refuses, stated}
 use Rattle.specification.specs.Bytes.{book_mark, order_mark, amounts_mark}
 use Rattle.specification.specs.OrderFile.{order_pairs}
-use Rattle.specification.specs.Change.{amounts_with}
-use Rattle.specification.specs.Entry.{by_order, by_found, idle, panel, Entry, reads_book, reads_amounts, costs_pair, checks, finds, runs, changes}
-use Rattle.specification.specs.Entry.{reply_of}
+use Rattle.specification.specs.Entry.{by_order, by_found, idle, panel, Entry, reads_book, reads_amounts, costs_pair, checks, finds, runs, reply_of}
 use Rattle.specification.specs.Demands.{InTable}
 use Rattle.specification.specs.Refused.{Causes, cause, ◌then◌, in_turn_of, opening_causes, head_causes, book_causes, amounts_causes, pair_at, cross_causes}
 use Rattle.specification.specs.Refused.{order_causes, causes_of, book_numbers, order_numbers, amounts_numbers, numbers_of, among, RefusedExactly}
@@ -24,8 +22,8 @@ use Rattle.specification.proofs.Causes.{accepted_exactly}
 use Rattle.specification.proofs.RefusedRuns.{refused_by_first}
 
 -- causes that are lines of the table, with numbers among some
-pub record Own (ns : List ℕ) (C : Causes) : Type 0 where
-  pub by : (k : ℕ) (vs : List ℕ) → C k vs → InTable k vs × T (among k ns)
+record Own (ns : List ℕ) (C : Causes) : Type 0 where
+  by : (k : ℕ) (vs : List ℕ) → C k vs → InTable k vs × T (among k ns)
 
 own_line : {ns : List ℕ} {H : Type 0} (r : Refusal) → T (among (stated r).number ns) → Own ns (cause (stated r).number (stated r).values H)
 own_line r in_it = record { by = λ k vs (number, values, _). ((r, sym number, sym values), rw number in_it) }
@@ -90,7 +88,7 @@ own_order book s = own_then (own_more tt (own_book book))
     (own_then (own_line refusal.PairMissing tt)
     (own_turns (λ place. own_turns (λ k. own_turns (λ l. own_cross book (order_pairs s) place k l)))))))))
 
-pub own_numbers : (e : Entry) → Own (numbers_of e) (causes_of e)
+own_numbers : (e : Entry) → Own (numbers_of e) (causes_of e)
 unfolding among all_among
 own_numbers (reads_book book) = own_book book
 own_numbers (reads_amounts book amounts) = own_amounts book amounts
@@ -108,9 +106,6 @@ own_numbers (runs idle book amounts flow) = own_then (own_more tt (own_amounts b
 own_numbers (runs panel book amounts flow) =
     own_then (own_then (own_more tt (own_head book)) (own_line refusal.AboveEight tt))
     (own_then (own_more tt (own_amounts book amounts)) (own_then (own_line refusal.BufferTooShort tt) (own_line refusal.NoOrder tt)))
-own_numbers (changes book order amounts flow c) = own_then (own_more tt (own_order book order))
-    (own_then (own_line (refusal.PairNotEligible 0) tt) (own_then (own_more tt (own_amounts book (amounts_with book amounts c)))
-    (own_then (own_line refusal.BufferTooShort tt) (own_line refusal.FlowExceedsAmount tt))))
 
 pub refused_exactly : RefusedExactly
 refused_exactly = record {

@@ -1,32 +1,25 @@
 -- Every entry point is refused exactly by its causes, by the first that applies.
 use mathlib.Core.Path.{◌≡◌, refl}
-use mathlib.Core.Logic.{⊎_elim, ◌↔◌}
-use mathlib.Core.Bool.{Bool, not, ◌||◌}
-use mathlib.Core.List.{List, [], ◌∷◌}
+use mathlib.Core.Bool.{Bool, ◌||◌}
+use mathlib.Core.List.{List, []}
 use mathlib.Core.Option.{Option, some, none}
-use Prim.Native.Nat.{ℕ, ◌*◌, ◌≤◌}
-use native.Mathlib.Omega.{arith}
-use lib.Dec.{T, ltb, eqb, nltb→le, ltb→lt, T_not, not_T}
+use Prim.Native.Nat.{ℕ, ◌*◌}
+use lib.Dec.{ltb, eqb}
 use lib.IntN.{ℤ}
 use lib.ListN.{length}
 use Rattle.transport.specs.Problem.{Problem}
 use Rattle.transport.specs.Greedy.{Pair}
 use Rattle.transport.specs.Signed.{Lifts}
 use Rattle.transport.specs.Finder.{find}
-use Rattle.transport.specs.Changes.{Change, lot_takes, call_takes}
 use Rattle.transport.proofs.Greedy.Signed.{idle_lifts}
-use Rattle.transport.proofs.Greedy.Changes.{entries_fit_says, entries_fit_fails}
 use Rattle.specification.specs.Reply.{gives, refuses, refuse_if}
 use Rattle.specification.specs.Book.{book_lots, book_calls, problem_of}
-use Rattle.specification.specs.OrderFile.{order_pairs}
 use Rattle.specification.specs.Run.{flow_too_short, run_order}
 use Rattle.specification.specs.Find.{order_length, order_or13, found_order, find_order, found_to_run, find_and_run}
 use Rattle.specification.specs.Idle.{enlarged, enlarged_costs, lots_total, calls_total, found_to_run_idle, find_and_run_idle}
 use Rattle.specification.specs.Panel.{above_eight, read_panel, find_and_run_panel}
-use Rattle.specification.specs.Change.{is_in_book, amounts_with, earlier_fit, change}
-use Rattle.specification.specs.Entry.{Run, by_order, by_found, idle, panel, run_reply, Entry, reads_book, reads_amounts, costs_pair, checks, finds, runs}
-use Rattle.specification.specs.Entry.{changes, reply_of}
-use Rattle.specification.specs.Refused.{no_order, flow_short, run_causes, Outside, Exceeding, change_causes, causes_of}
+use Rattle.specification.specs.Entry.{Run, by_order, by_found, idle, panel, run_reply, Entry, reads_book, reads_amounts, costs_pair, checks, finds, runs, reply_of}
+use Rattle.specification.specs.Refused.{no_order, flow_short, run_causes, causes_of}
 use Rattle.specification.proofs.Replies.{said_of_given}
 use Rattle.specification.proofs.Books.{book_read, book_lifts, head_says}
 use Rattle.specification.proofs.AmountsFiles.{amounts_read}
@@ -34,9 +27,6 @@ use Rattle.specification.proofs.Finds.{found_is_good, none_is_good}
 use Rattle.specification.proofs.Causes.{Exactly, exactly_nothing, exactly_if, exactly_then, exactly_gives}
 use Rattle.specification.proofs.Refused.{lt_iff, eq_iff, or_iff, exactly_head, exactly_book, exactly_amounts}
 use Rattle.specification.proofs.RefusedOrders.{exactly_order}
-
-not_below_iff : (m n : ℕ) → T (not (ltb m n)) ↔ (n ≤ m)
-not_below_iff m n = (nltb→le m n, λ h. not_T (ltb m n) (λ t. omega (arith, ltb→lt m n t)))
 
 -- 13: where nothing is found no order is good
 exactly_13 : {base : ℕ} {P : Problem} {c : ℕ → ℕ → ℤ} → Lifts base P c → Exactly (order_or13 P) (no_order P c)
@@ -82,34 +72,6 @@ exactly_run panel book amounts flow =
     (exactly_if (many_lots || many_calls) 20 [] (or_iff many_lots many_calls (lt_iff 8 (book_lots book)) (lt_iff 8 (book_calls book)))))))
     (λ _ _. exactly_found book amounts flow)
 
--- a change: outside the book, and where the earlier entries exceed an amount
-pub outside_iff : (book : List ℕ) (c : Change) → T (not (is_in_book book c)) ↔ Outside book c
-outside_iff book (lot_takes i v) = not_below_iff i (book_lots book)
-outside_iff book (call_takes j v) = not_below_iff j (book_calls book)
-
-exceeding_iff : (book order amounts flow : List ℕ) (c : Change)
-    → T (not (earlier_fit book (order_pairs order) amounts flow c)) ↔ Exceeding book order amounts flow c
-unfolding problem_of
-exceeding_iff book order amounts flow c =
-    let fits : Bool = earlier_fit book (order_pairs order) amounts flow c in (
-      λ t. entries_fit_fails (problem_of book) _ _ _ _ (T_not fits t),
-      λ some. not_T fits (λ fit.
-          let (lots, calls) = entries_fit_says (problem_of book) _ _ _ _ fit in
-          ⊎_elim (λ (i, h, above). omega (arith, lots i h)) (λ (j, h, above). omega (arith, calls j h)) some),
-    )
-
-exactly_change : (book order amounts flow : List ℕ) (c : Change)
-    → Exactly (change book order amounts flow c) (change_causes book order amounts flow c)
-unfolding change
-exactly_change book order amounts flow c =
-    let fits : Bool = earlier_fit book (order_pairs order) (amounts_with book amounts c) flow c in
-    exactly_then _ _ _ (exactly_order book order) (λ _ _.
-    exactly_then _ _ _ (exactly_if (not (is_in_book book c)) 9 (0 ∷ []) (outside_iff book c)) (λ _ _.
-    exactly_then _ _ _ (exactly_amounts book (amounts_with book amounts c)) (λ _ _.
-    exactly_then _ _ _ (exactly_flow book flow) (λ _ _.
-    exactly_gives (refuse_if (not fits) 22 []) _
-    (exactly_if (not fits) 22 [] (exceeding_iff book order (amounts_with book amounts c) flow c))))))
-
 pub refused_by_first : (e : Entry) → Exactly (reply_of e) (causes_of e)
 unfolding find_order found_order
 refused_by_first (reads_book book) = exactly_gives _ _ (exactly_book book)
@@ -121,4 +83,3 @@ refused_by_first (finds book buffer) = exactly_gives _ _ (exactly_gives _ _
     exactly_then _ _ _ (exactly_if (ltb (length buffer) (order_length book)) 17 [] (lt_iff (length buffer) (order_length book))) (λ _ _.
     exactly_13 (book_lifts (book_read book n reads))))))
 refused_by_first (runs run book amounts flow) = exactly_gives _ _ (exactly_run run book amounts flow)
-refused_by_first (changes book order amounts flow c) = exactly_gives _ _ (exactly_change book order amounts flow c)

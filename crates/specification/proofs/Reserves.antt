@@ -39,8 +39,7 @@ kept_back {book} {amounts} {x = x} read amounts_are ran i h =
 run_keeps : (book order amounts flow : List ℕ) (o : Outcome) → run_order book order amounts flow ≡ gives o
     → KeptBack book amounts (run_flow book order amounts flow)
 run_keeps book order amounts flow o e =
-    let (n, reads) = (said_of_given (run_says book order amounts flow) o e).reads in
-    let (read, amounts_are) = amounts_read book amounts n reads in
+    let (n, read, amounts_are) = (said_of_given (run_says book order amounts flow) o e).read in
     kept_back read amounts_are (ran book order amounts flow o e)
 
 find_keeps : (book amounts flow : List ℕ) (o : Outcome) → find_and_run book amounts flow ≡ gives o

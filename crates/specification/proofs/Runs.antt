@@ -41,7 +41,7 @@ use Rattle.specification.proofs.Replies.{
   says_unless,
   says_afterwards,
 }
-use Rattle.specification.proofs.Books.{book_read, book_lifts, book_monge, book_good}
+use Rattle.specification.proofs.Books.{BookRead, book_read, book_lifts, book_monge, book_good}
 use Rattle.specification.proofs.AmountsFiles.{AmountsRead, AmountsOrBookRefused, amounts_say}
 use Rattle.specification.proofs.Checks.{CheckRefused, check_says, check_passes}
 use Rattle.specification.proofs.Verdicts.{full_iff_spent, covered_iff, short_iff, best_of}
@@ -59,7 +59,7 @@ pub data RunRefused (book order amounts flow : List ℕ) : ℕ → List ℕ → 
 pub record RunGave (book order amounts flow : List ℕ) (o : Outcome) : Type 0 where
   pub outcome_is : o ≡ outcome (problem_of book) (costs_of book) (greedy_on book (order_pairs order) amounts)
   pub passing : Passing book order
-  pub reads : (n : Size) × (read_amounts book amounts ≡ gives n)
+  pub read : (n : Size) × BookRead book n × AmountsRead n amounts
   pub long : (problem_of book).lots * (problem_of book).calls ≤ length flow
 
 -- a state that keeps the amounts, nothing being still to come: its outcome and flow are what a run writes and replies
@@ -91,9 +91,9 @@ module _ (book order amounts flow : List ℕ) where
   unfolding run_order
   run_says =
       says_then _ (says_known (check_says book order)) (λ k vs (q, e). of_check q e) (λ n ((count, passing), passes).
-      says_then _ (says_known (amounts_say book amounts)) (λ k vs (q, e). of_amounts passing q e) (λ m ((_, read), reads).
+      says_then _ (says_known (amounts_say book amounts)) (λ k vs (q, e). of_amounts passing q e) (λ m ((book_is, read), _).
       says_unless (flow_too_short (problem_of book) flow) 17 _ _ (λ t. too_short_flow passing read (ltb→lt _ _ t)) (λ long.
-      giving (record { outcome_is = refl; passing = passing; reads = (m, reads); long = nltb→le _ _ long }))))
+      giving (record { outcome_is = refl; passing = passing; read = (m, book_is, read); long = nltb→le _ _ long }))))
 
   -- the flow buffer keeps its length
   pub length_run_flow : length (run_flow book order amounts flow) ≡ length flow

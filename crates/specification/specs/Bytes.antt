@@ -1,5 +1,5 @@
 -- Little-endian numbers in a list of bytes, and the seven bytes that open each file (document 01, "The three files").
-use Rattle.std.specs.Prelude.{List, [], ◌∷◌, Bool, not, ◌&&◌, ◌||◌, ℕ, ◌+◌, ◌*◌, ◌/◌, ◌%◌, length, get_or, set, ltb, eqb}
+use Rattle.std.specs.Prelude.{List, [], ◌∷◌, Bool, not, ◌&&◌, ◌||◌, ℕ, ◌+◌, ◌*◌, length, get_or, ltb, eqb}
 use Rattle.specification.specs.Reply.{Reply, refuse_if, ◌>>=◌}
 
 -- the byte at an offset; past the end 0. No field of an accepted file lies there: 1 or 6 is refused first
@@ -13,11 +13,6 @@ u16_at s at = byte_at s at + 256 * byte_at s (at + 1)
 -- 32 bits, the lower half first
 unfoldable pub u32_at : List ℕ → ℕ → ℕ
 u32_at s at = u16_at s at + 65536 * u16_at s (at + 2)
-
--- a list of bytes with a 32-bit number put at an offset; its length stays
-abbrev pub put_u32 : List ℕ → ℕ → ℕ → List ℕ
-put_u32 s at v =
-    set (set (set (set s at (v % 256)) (at + 1) (v / 256 % 256)) (at + 2) (v / 65536 % 256)) (at + 3) (v / 16777216 % 256)
 
 -- the "three-letter ASCII mark" of a book, CLB
 abbrev pub book_mark : List ℕ

@@ -8,7 +8,6 @@ use Rattle.transport.specs.Greedy.{Pair, greedy}
 use Rattle.transport.specs.Order.{OrderOf}
 use Rattle.transport.specs.Signed.{signed_cost, SignedMonge, SignedGood}
 use Rattle.transport.specs.Finder.{size, find}
-use Rattle.transport.specs.Changes.{Change}
 use Rattle.specification.specs.declared.Refusal.{Refusal}
 use Rattle.specification.specs.Reply.{Reply, gives, refuses, stated, Never, Size, Outcome, full, covered, short}
 use Rattle.specification.specs.Bytes.{byte_at, u32_at, order_mark, read_opening}
@@ -19,7 +18,6 @@ use Rattle.specification.specs.OrderFile.{order_count, order_pairs, order_file}
 use Rattle.specification.specs.Check.{check_order}
 use Rattle.specification.specs.Run.{run_order, run_flow}
 use Rattle.specification.specs.Find.{order_length, find_order, find_buffer, find_and_run, find_and_run_flow}
-use Rattle.specification.specs.Change.{updated_on, change, change_amounts, change_flow}
 use Rattle.specification.specs.Entry.{Run, run_reply, run_leaves, ItsOrder, last_state, Entry, reply_of, buffers_of}
 use Rattle.specification.specs.Text.{decimal, read_digits, text_of, book_most, printed}
 
@@ -33,7 +31,7 @@ Answered (gives a) before after = Unit {0}
 Answered (refuses k vs) before after = InTable k vs × (after ≡ before)
 
 -- Demand 1. "The program as a whole finishes on every input": each entry point is a function that is defined on all files and buffers.
--- Files are lent for reading alone, but for the amounts of a change (document 02, request 8): `buffers_of` names all that is written. The printing program prints find-and-run's reply (`Demand2.prints`).
+-- Files are lent for reading alone: nothing here gives one later contents. The printing program prints find-and-run's reply (`Demand2.prints`).
 pub record Demand1 : Type 0 where
   -- "each file, order and buffer handed to a public entry point is either accepted or refused"
   pub answered : (e : Entry) → Answered (reply_of e) (buffers_of e).0 (buffers_of e).1
@@ -108,14 +106,6 @@ RanBy run book amounts flow o = (S : List Pair) × ItsOrder run book S
     × Ran (problem_of book) (costs_of book) (lot_amount amounts) (call_amount book amounts) (last_state run book S amounts).given
     flow (run_leaves run book amounts flow) o
 
--- what an accepted change of one amount (document 02, request 8) leaves and replies: "Pairs from that first one on are given units as in a run,
--- from what the earlier entries leave of the amounts; the reply is a run's, over the flow that then stands", by the amounts that it leaves
-abbrev pub RanChange : (book order amounts flow : List ℕ) → Change → Outcome → Type 0
-RanChange book order amounts flow c o =
-    let after : List ℕ = change_amounts book order amounts flow c in
-    Ran (problem_of book) (costs_of book) (lot_amount after) (call_amount book after) (updated_on book (order_pairs order) after flow c).given
-    flow (change_flow book order amounts flow c) o
-
 -- how many calls below j a lot is eligible for
 abbrev pub calls_below : Problem → ℕ → ℕ → ℕ
 calls_below P i j = sum j (λ l. cond (P.admits i l) 1 0)
@@ -157,9 +147,6 @@ pub record Demand2 : Type 0 where
   pub only_these : (book order : List ℕ) (n : ℕ) → check_order book order ≡ gives n → Passing book order
   -- "a run's flow, units and cost are those of their GREEDY", and its verdict says what they leave
   pub runs : (run : Run) (book amounts flow : List ℕ) (o : Outcome) → run_reply run book amounts flow ≡ gives o → RanBy run book amounts flow o
-  -- and those that a change leaves and replies are those of GREEDY from its first pair on
-  pub changes : (book order amounts flow : List ℕ) (c : Change) (o : Outcome) → change book order amounts flow c ≡ gives o
-      → RanChange book order amounts flow c o
   -- the finder "writes the order file", of the order that it finds; "bytes after it keep their contents" (document 01)
   pub writes : (book buffer : List ℕ) (n : ℕ) → find_order book buffer ≡ gives n
       → (S : List Pair) × (find (problem_of book) ≡ some S) × (find_buffer book buffer ≡ order_file S ++ drop (order_length book) buffer)

@@ -3,7 +3,6 @@ use Rattle.std.specs.Prelude.{◌≡◌, List, [], ◌∷◌, ℕ}
 use Rattle.std.proofs.Math.Option.{some}
 use Rattle.transport.specs.Greedy.{Pair, State}
 use Rattle.transport.specs.Finder.{find}
-use Rattle.transport.specs.Changes.{Change}
 use Rattle.specification.specs.Reply.{Reply, gives, ◌>>=◌, Outcome}
 use Rattle.specification.specs.Book.{read_book, problem_of, pair_cost}
 use Rattle.specification.specs.Amounts.{read_amounts}
@@ -13,7 +12,6 @@ use Rattle.specification.specs.Run.{greedy_on, run_order, run_flow}
 use Rattle.specification.specs.Find.{find_order, find_buffer, find_and_run, find_and_run_flow}
 use Rattle.specification.specs.Idle.{enlarged, greedy_idle_on, find_and_run_idle, find_and_run_idle_flow}
 use Rattle.specification.specs.Panel.{find_and_run_panel, find_and_run_panel_flow}
-use Rattle.specification.specs.Change.{change, change_amounts, change_flow}
 
 -- the runs: by an order file; and by the order found, in one call: plain, with an idle call (document 02, request 2), for the ticket panel (request 6)
 pub data Run : Type 0 where
@@ -48,8 +46,8 @@ last_state by_found book S amounts = greedy_on book S amounts
 last_state idle book S amounts = greedy_idle_on book S amounts
 last_state panel book S amounts = greedy_on book S amounts
 
--- reading a book, or amounts with their book; the cost of one pair; checking an order; finding one, into a buffer; the runs; and a change of one
--- amount (document 02, request 8). The costs of a lot have no refusals, and the printing program prints a run's reply
+-- reading a book, or amounts with their book; the cost of one pair; checking an order; finding one, into a buffer; and the runs. The costs of a
+-- lot have no refusals, and the printing program prints a run's reply
 pub data Entry : Type 0 where
   reads_book : (book : List ℕ) → Entry
   reads_amounts : (book amounts : List ℕ) → Entry
@@ -57,7 +55,6 @@ pub data Entry : Type 0 where
   checks : (book order : List ℕ) → Entry
   finds : (book buffer : List ℕ) → Entry
   runs : Run → (book amounts flow : List ℕ) → Entry
-  changes : (book order amounts flow : List ℕ) → Change → Entry
 
 -- its reply, but for the value that it gives
 abbrev pub reply_of : Entry → Reply (Unit {0})
@@ -67,7 +64,6 @@ reply_of (costs_pair book i j) = pair_cost book i j >>= λ _. gives tt
 reply_of (checks book order) = check_order book order >>= λ _. gives tt
 reply_of (finds book buffer) = find_order book buffer >>= λ _. gives tt
 reply_of (runs run book amounts flow) = run_reply run book amounts flow >>= λ _. gives tt
-reply_of (changes book order amounts flow c) = change book order amounts flow c >>= λ _. gives tt
 
 -- the buffers that it is lent, and the same afterwards
 abbrev pub buffers_of : Entry → List (List ℕ) × List (List ℕ)
@@ -77,5 +73,3 @@ buffers_of (costs_pair book i j) = ([], [])
 buffers_of (checks book order) = ([], [])
 buffers_of (finds book buffer) = (buffer ∷ [], find_buffer book buffer ∷ [])
 buffers_of (runs run book amounts flow) = (flow ∷ [], run_leaves run book amounts flow ∷ [])
-buffers_of (changes book order amounts flow c) =
-    (amounts ∷ flow ∷ [], change_amounts book order amounts flow c ∷ change_flow book order amounts flow c ∷ [])

@@ -5,18 +5,15 @@ use Rattle.transport.specs.Problem.{Problem, Eligible}
 use Rattle.transport.specs.Greedy.{Pair, pair}
 use Rattle.transport.specs.Order.{times}
 use Rattle.transport.specs.Signed.{SignedFit}
-use Rattle.transport.specs.Changes.{is_of_lot, is_of_call, Change, lot_takes, call_takes, concerns, earlier, entry_sum}
 use Rattle.specification.specs.Reply.{gives, refuses, Size}
 use Rattle.specification.specs.Bytes.{byte_at, u16_at, book_mark, order_mark, amounts_mark}
 use Rattle.specification.specs.Costs.{held_cost, Allows}
 use Rattle.specification.specs.Book.{bit, row_word, row_size, row_cost, book_version, book_lots, book_calls, row_at, problem_of, costs_of}
-use Rattle.specification.specs.Amounts.{amount_limit, amount_at, amounts_length, reserve_at, lot_amount, call_amount}
+use Rattle.specification.specs.Amounts.{amount_limit, amount_at, amounts_length, reserve_at}
 use Rattle.specification.specs.OrderFile.{order_count, order_pairs}
 use Rattle.specification.specs.Find.{order_length}
 use Rattle.specification.specs.Idle.{enlarged, enlarged_costs, lots_total, calls_total}
-use Rattle.specification.specs.Change.{amounts_with, flow_so_far}
-use Rattle.specification.specs.Entry.{Run, by_order, by_found, idle, panel, Entry, reads_book, reads_amounts, costs_pair, checks, finds, runs, changes}
-use Rattle.specification.specs.Entry.{reply_of}
+use Rattle.specification.specs.Entry.{Run, by_order, by_found, idle, panel, Entry, reads_book, reads_amounts, costs_pair, checks, finds, runs, reply_of}
 use Rattle.specification.specs.Demands.{GoodOrder}
 
 -- some causes: by which number and values something is refused, and why
@@ -137,29 +134,6 @@ run_causes panel book amounts flow =
     (head_causes book then cause 20 [] ((8 < book_lots book) ⊎ (8 < book_calls book)))
     then amounts_causes book amounts then flow_short book flow then no_order (problem_of book) (costs_of book)
 
--- a change: "a lot or call outside the book"
-abbrev pub Outside : List ℕ → Change → Type 0
-Outside book (lot_takes i v) = book_lots book ≤ i
-Outside book (call_takes j v) = book_calls book ≤ j
-
--- "the entries of those earlier pairs", which "precede, in the order, the first pair of that lot or call", "sum, for some lot or call, to more
--- than its amount": the amounts are those of this file
-abbrev pub Exceeding : List ℕ → List ℕ → List ℕ → List ℕ → Change → Type 0
-Exceeding book order amounts flow c =
-    let x : ℕ → ℕ → ℕ = flow_so_far book flow in
-    let S : List Pair = earlier (concerns c) (order_pairs order) in
-    ((i : ℕ) × (i < book_lots book) × (lot_amount amounts i < entry_sum (is_of_lot i) x S))
-    ⊎ ((j : ℕ) × (j < book_calls book) × (call_amount book amounts j < entry_sum (is_of_call j) x S))
-
--- "16 and 21 are tested with the new amount in place; 22 .. after 17; 9, with place 0, after the order's checks" (document 02, request 8)
-abbrev pub change_causes : List ℕ → List ℕ → List ℕ → List ℕ → Change → Causes
-change_causes book order amounts flow c =
-    order_causes book order
-    then cause 9 (0 ∷ []) (Outside book c)
-    then amounts_causes book (amounts_with book amounts c)
-    then flow_short book flow
-    then cause 22 [] (Exceeding book order (amounts_with book amounts c) flow c)
-
 -- of every entry point
 abbrev pub causes_of : Entry → Causes
 causes_of (reads_book book) = book_causes book
@@ -169,10 +143,8 @@ causes_of (checks book order) = order_causes book order
 causes_of (finds book buffer) =
     book_causes book then cause 17 [] (length buffer < order_length book) then no_order (problem_of book) (costs_of book)
 causes_of (runs run book amounts flow) = run_causes run book amounts flow
-causes_of (changes book order amounts flow c) = change_causes book order amounts flow c
 
--- the numbers of these causes: 18 and 19 are of the run with an idle call alone, 20 of the ticket panel's, 21 of those that take amounts, 22 of
--- a change
+-- the numbers of these causes: 18 and 19 are of the run with an idle call alone, 20 of the ticket panel's, 21 of those that take amounts
 abbrev pub book_numbers : List ℕ
 book_numbers = 1 ∷ 2 ∷ 3 ∷ 4 ∷ 5 ∷ 6 ∷ 7 ∷ 8 ∷ []
 
@@ -192,7 +164,6 @@ numbers_of (runs (by_order order) book amounts flow) = order_numbers ++ (15 ∷ 
 numbers_of (runs by_found book amounts flow) = amounts_numbers ++ (13 ∷ 17 ∷ [])
 numbers_of (runs idle book amounts flow) = amounts_numbers ++ (13 ∷ 17 ∷ 18 ∷ 19 ∷ [])
 numbers_of (runs panel book amounts flow) = amounts_numbers ++ (13 ∷ 17 ∷ 20 ∷ [])
-numbers_of (changes book order amounts flow c) = order_numbers ++ (15 ∷ 16 ∷ 17 ∷ 21 ∷ 22 ∷ [])
 
 -- whether a number is one of some
 unfoldable pub among : ℕ → List ℕ → Bool

@@ -67,7 +67,6 @@ stated refusal.CallsExceedLots = line 18 []
 stated refusal.NoIdleCall = line 19 []
 stated refusal.AboveEight = line 20 []
 stated refusal.ReserveExceedsLot = line 21 []
-stated refusal.FlowExceedsAmount = line 22 []
 
 -- refused for this cause
 abbrev pub refused : {A : Type 0} → Refusal → Reply A

@@ -1,4 +1,6 @@
 // The words of document 01 as types: lot and call numbers, the refusals, and the answer of each entry point.
+#![tactic(auto)]
+
 
 // "Costs are .. 0 to 1,000,000" and "Amounts are .. 0 to 1,000,000,000" (Words): the highest of each. In version 2 of a book costs are
 // "from -1,000,000 to 1,000,000" (document 02, request 4).
@@ -7,16 +9,16 @@ pub const COST_LIMIT: u32 = 1_000_000;
 pub const AMOUNT_LIMIT: u32 = 1_000_000_000;
 
 // "A lot is known by its lot number .. counted from 0" (Words).
-#[derive(Drop)]
+#[derive(Clone, Copy)]
 pub struct Lot(pub usize);
 
 // "and a call by its call number" (Words).
-#[derive(Drop)]
+#[derive(Clone, Copy)]
 pub struct Call(pub usize);
 
 // The causes of the table under "Refused", in its order, with the values that it returns beside the number; "These and all later new numbers
 // join 01's table, return the number alone" (document 02, request 2).
-#[derive(Drop)]
+#[derive(Clone, Copy)]
 pub enum Refusal {
     // 1: file under 7 bytes
     UnderSeven,
@@ -60,19 +62,17 @@ pub enum Refusal {
     AboveEight,
     // 21: a reserve exceeds its lot
     ReserveExceedsLot,
-    // 22: change of an amount: the entries of earlier pairs sum, for some lot or call, to more than its amount
-    FlowExceedsAmount,
 }
 
 // "Reading a book, or amounts with their book, replies n and m" (The three files).
-#[derive(Drop)]
+#[derive(Clone, Copy)]
 pub enum Counts {
     Are(usize, usize),
     Refused(Refusal),
 }
 
 // "An order that passes gets its count of pairs as the reply" (Checking an order).
-#[derive(Drop)]
+#[derive(Clone, Copy)]
 pub enum Checked {
     Passes(usize),
     Refused(Refusal),
@@ -81,7 +81,7 @@ pub enum Checked {
 // "The answer is Full (units, cost) if nothing is left in any lot or call" (Running an order), "Covered (units, cost) when every call is met
 // and some lot has units left; Short when a call still lacks units" (document 02, request 1). "The cost of one pair and the cost of a run
 // become signed for every caller" (request 4).
-#[derive(Drop)]
+#[derive(Clone, Copy)]
 pub enum Placed {
     Full(u64, i64),
     Covered(u64, i64),
@@ -90,14 +90,14 @@ pub enum Placed {
 }
 
 // The finder "replies with the file's length" (Finding an order).
-#[derive(Drop)]
+#[derive(Clone, Copy)]
 pub enum Found {
     Length(usize),
     Refused(Refusal),
 }
 
 // What the test of one quadruple answers: "whether (k, l) is eligible and the cost sums are as the check asks" (document 02, request 3).
-#[derive(Drop)]
+#[derive(Clone, Copy)]
 pub enum Quadruple {
     Holds,
     NotEligible,

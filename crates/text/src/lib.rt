@@ -1,5 +1,7 @@
 // The printed text of document 01, "The printing program", in an array: an answer's line, and the lines of its pairs. A text stands at the
 // front of a lent buffer; each function appends to it, and replies how long the text then is.
+#![tactic(auto)]
+
 mod fields;
 
 ghost use Rattle.std.specs.Prelude.{◌≡◌, [], ◌∷◌, ◌+◌, ◌*◌, ◌≤◌, ◌<◌, length, take};

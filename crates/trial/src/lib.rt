@@ -1,5 +1,7 @@
 // Whether a pair that is left is free. By ranks two corners decide. Else the lots that still have its call are asked, each by one pass over all
 // calls; lots that let it pass once do so for good, and are not asked again.
+#![tactic(auto)]
+
 ghost use Rattle.std.specs.Prelude.{◌≡◌, ℕ, suc, ◌+◌, ◌*◌, ◌≤◌, ◌<◌, get_or};
 ghost use Rattle.specification.specs.Costs.{cost_top};
 ghost use Rattle.slacks.specs.Slacks.{Capped};
@@ -14,7 +16,7 @@ use specification::{Call, Lot};
 use words::{below, lowest, minus, without};
 
 // What is told of a pair: that it is free, or whether it is hindered in the low half and in the high half.
-#[derive(Drop)]
+#[derive(Clone, Copy)]
 pub enum Trial {
     Free,
     Hindered(bool, bool),

@@ -3,6 +3,8 @@
 // least gap of j over each of these calls at those lots. A pair (i, j) fails where lot i has a later pair with a call that is not in the word
 // of j, since then a pair (k, l) is not eligible, or with one over which its own gap is not the least. Costs are read where the book holds
 // them; only the least gaps are kept.
+#![tactic(auto)]
+
 mod gaps;
 pub mod places;
 

@@ -7,7 +7,7 @@ use Prim.Native.Nat.{ℕ, zero, suc, ◌+◌, ◌*◌, ◌-◌, ◌/◌, ◌%◌
 use native.Mathlib.Nat.{div-eq_of_lt, mod-lt, pow-suc}
 use native.Mathlib.Decide.{dec_lt}
 use native.Mathlib.Omega.{arith}
-use borrow.Author.Tests.{eqb_true, eq-eqb, ne_eqb}
+use borrow.Author.Tests.{eqb-true, eq-eqb, ne_eqb}
 use lib.Dec.{T, eqb, eqb→eq, lit<}
 use lib.Bits.{differ, bit_and, bit_or, bit_xor, and_step, or_step, xor_step, and_shr, or_shr, xor_shr, and_zero_l}
 use lib.Pow.{pow_pos}
@@ -99,16 +99,16 @@ bit_all (suc k) (suc l) h =
 
 -- a number of the word taken out of it
 pub single_le : (w j : ℕ) → bit w j ≡ true → 2 ^ j ≤ w
-single_le w zero h = omega (arith, eqb_true (w % 2) 1 (sym (bit_first w) ∙ h))
+single_le w zero h = omega (arith, eqb-true (w % 2) 1 (sym (bit_first w) ∙ h))
 single_le w (suc j) h = omega (arith, pow-suc 2 j, single_le (w / 2) j (sym (bit_next w j) ∙ h))
 
 pub bit_less : (w j l : ℕ) → bit w j ≡ true → bit (w - 2 ^ j) l ≡ (bit w l && not (eqb l j))
 bit_less w zero zero h =
-    let odd = eqb_true (w % 2) 1 (sym (bit_first w) ∙ h) in
+    let odd = eqb-true (w % 2) 1 (sym (bit_first w) ∙ h) in
     let even : (w - 1) % 2 ≡ 0 = omega (arith, odd) in
     bit_first (w - 1) ∙ rw (even, h)
 bit_less w zero (suc l) h =
-    let odd = eqb_true (w % 2) 1 (sym (bit_first w) ∙ h) in
+    let odd = eqb-true (w % 2) 1 (sym (bit_first w) ∙ h) in
     let half : (w - 1) / 2 ≡ w / 2 = omega (arith, odd) in
     bit_next (w - 1) l ∙ ap (λ (x : ℕ). bit x l) half ∙ sym (bit_next w l)
     ∙ rw (ne_eqb (suc l) 0 (λ e. omega arith)) (sym (and-true (bit w (suc l))))

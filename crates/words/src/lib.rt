@@ -1,4 +1,6 @@
 // Words of lots or calls: a number below 32 is in a word where that bit of it is set.
+#![tactic(auto)]
+
 ghost use Rattle.std.specs.Prelude.{true, ◌<◌};
 ghost use Rattle.words.specs.Words.{LowestIn, HighestIn, Below, Without, Minus, Either, IncludingIf};
 

@@ -15,7 +15,7 @@ use Rattle.answers.proofs.values_of.Tie as tie
 
 -- the causes without values, by their tags, which are one less than their numbers
 abbrev plain : List ℕ
-plain = 0 ∷ 1 ∷ 2 ∷ 3 ∷ 5 ∷ 7 ∷ 12 ∷ 13 ∷ 14 ∷ 15 ∷ 16 ∷ 17 ∷ 18 ∷ 19 ∷ 20 ∷ 21 ∷ []
+plain = 0 ∷ 1 ∷ 2 ∷ 3 ∷ 5 ∷ 7 ∷ 12 ∷ 13 ∷ 14 ∷ 15 ∷ 16 ∷ 17 ∷ 18 ∷ 19 ∷ 20 ∷ []
 
 no-values : (r : Refusal) → OneOf plain (tag_of the_type r) → 0 ∷ 0 ∷ 0 ∷ 0 ∷ [] ≡ four_of (stated r).values
 no-values refusal.UnderSeven h = refl
@@ -39,7 +39,6 @@ no-values refusal.CallsExceedLots h = refl
 no-values refusal.NoIdleCall h = refl
 no-values refusal.AboveEight h = refl
 no-values refusal.ReserveExceedsLot h = refl
-no-values refusal.FlowExceedsAmount h = refl
 
 returns-7 : tie.Need-returns-7
 returns-7 c = no-values c.before.args.cause c.match.keys7

@@ -106,7 +106,7 @@ cost_is : (c : tie.After-held-cost) → (let l = told (inside c.before) in
 unfolding costs_of
 cost_is c =
     let is : c.held-cost.result ≡ held_cost c.before.version_of.result c.before.before.cost-in.result = c.held-cost.ensures in
-    to_z-of_z (sfits_of c.held-cost.type-inv) ∙ is ∙ ap₂ held_cost c.before.version_of.ensures (bits_are c.before)
+    to_z-of_z (sfits_of c.held-cost.type_inv) ∙ is ∙ ap₂ held_cost c.before.version_of.ensures (bits_are c.before)
 
 returns-4 : tie.Need-returns-4
 returns-4 c =

@@ -6,30 +6,30 @@ use Rattle.specification.specs.Bytes.{read_opening}
 use Rattle.files.proofs.read_opening.Statement.{statement}
 use Rattle.files.proofs.read_opening.Tie as tie
 
-returns : tie.Need-returns
+returns : tie.Need-returns-then-file-lt7
 unfolding read_opening
-returns c = simp (lt-ltb _ _ c.if1.true)
+returns c = simp (lt-ltb _ _ c.if-file-lt7.true)
 
-returns-2 : tie.Need-returns-2
+returns-2 : tie.Need-returns-then-file-mark
 unfolding read_opening
-returns-2 c = simp (le-ltb _ _ c.before.before.before.if1.false, ne_eqb _ _ c.if2.true)
+returns-2 c = simp (le-ltb _ _ c.before.before.before.if-file-lt7.false, ne_eqb _ _ c.if-file-mark.true)
 
-returns-3 : tie.Need-returns-3
+returns-3 : tie.Need-returns-then-file-mark-2
 unfolding read_opening
 returns-3 c =
     let l = c.before.before.before in
     let k = l.before.before.before in
-    simp (le-ltb _ _ k.if1.false, eq-eqb _ _ l.if2.false, ne_eqb _ _ c.if3.true)
+    simp (le-ltb _ _ k.if-file-lt7.false, eq-eqb _ _ l.if-file-mark.false, ne_eqb _ _ c.if-file-mark-2.true)
 
-returns-4 : tie.Need-returns-4
+returns-4 : tie.Need-returns-then-file-mark-3
 unfolding read_opening
 returns-4 c =
     let m = c.before.before.before in
     let l = m.before.before.before in
     let k = l.before.before.before in
-    simp (le-ltb _ _ k.if1.false, eq-eqb _ _ l.if2.false, eq-eqb _ _ m.if3.false, ne_eqb _ _ c.if4.true)
+    simp (le-ltb _ _ k.if-file-lt7.false, eq-eqb _ _ l.if-file-mark.false, eq-eqb _ _ m.if-file-mark-2.false, ne_eqb _ _ c.if-file-mark-3.true)
 
-returns-5 : tie.Need-returns-5
+returns-5 : tie.Need-returns-then-other_version
 unfolding read_opening
 returns-5 c =
     let n = c.before.before in
@@ -37,14 +37,14 @@ returns-5 c =
     let l = m.before.before.before in
     let k = l.before.before.before in
     simp (
-      le-ltb _ _ k.if1.false,
-      eq-eqb _ _ l.if2.false,
-      eq-eqb _ _ m.if3.false,
-      eq-eqb _ _ n.if4.false,
-      sym c.before.other_version.ensures ∙ c.if5.true,
+      le-ltb _ _ k.if-file-lt7.false,
+      eq-eqb _ _ l.if-file-mark.false,
+      eq-eqb _ _ m.if-file-mark-2.false,
+      eq-eqb _ _ n.if-file-mark-3.false,
+      sym c.before.other_version.ensures ∙ c.if-other_version.true,
     )
 
-returns-6 : tie.Need-returns-6
+returns-6 : tie.Need-returns
 unfolding read_opening
 returns-6 c =
     let n = c.before.before in
@@ -52,15 +52,15 @@ returns-6 c =
     let l = m.before.before.before in
     let k = l.before.before.before in
     simp (
-      le-ltb _ _ k.if1.false,
-      eq-eqb _ _ l.if2.false,
-      eq-eqb _ _ m.if3.false,
-      eq-eqb _ _ n.if4.false,
-      sym c.before.other_version.ensures ∙ c.if5.false,
+      le-ltb _ _ k.if-file-lt7.false,
+      eq-eqb _ _ l.if-file-mark.false,
+      eq-eqb _ _ m.if-file-mark-2.false,
+      eq-eqb _ _ n.if-file-mark-3.false,
+      sym c.before.other_version.ensures ∙ c.if-other_version.false,
     )
 
-pub read-opening-spec : {M : Type 1} → statement M
-read-opening-spec =
+pub read_opening_spec : {M : Type 1} → statement M
+read_opening_spec =
     tie.close
     (tie.spec
     returns

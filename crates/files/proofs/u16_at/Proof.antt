@@ -6,15 +6,15 @@ use Rattle.specification.proofs.Numbers.{u16_past}
 use Rattle.files.proofs.u16_at.Statement.{statement}
 use Rattle.files.proofs.u16_at.Tie as tie
 
-returns : tie.Need-returns
-returns c = sym (u16_past _ _ c.if1.true)
+returns : tie.Need-returns-then-s-at
+returns c = sym (u16_past _ _ c.if-s-at.true)
 
-returns-2 : tie.Need-returns-2
+returns-2 : tie.Need-returns
 unfolding u16_at
 returns-2 c = search rules
 
-pub u16-at-spec : {M : Type 1} → statement M
-u16-at-spec =
+pub u16_at_spec : {M : Type 1} → statement M
+u16_at_spec =
     tie.close
     (tie.spec
     returns

@@ -6,15 +6,15 @@ use Rattle.specification.proofs.Numbers.{u32_past}
 use Rattle.files.proofs.u32_at.Statement.{statement}
 use Rattle.files.proofs.u32_at.Tie as tie
 
-returns : tie.Need-returns
-returns c = sym (u32_past _ _ c.if1.true)
+returns : tie.Need-returns-then-s-at
+returns c = sym (u32_past _ _ c.if-s-at.true)
 
-returns-3 : tie.Need-returns-3
+returns-3 : tie.Need-returns
 unfolding u32_at
 returns-3 c = search rules
 
-pub u32-at-spec : {M : Type 1} → statement M
-u32-at-spec =
+pub u32_at_spec : {M : Type 1} → statement M
+u32_at_spec =
     tie.close
     (tie.spec
     returns

@@ -20,8 +20,8 @@ u32-is s at = omega (arith, last)
 returns : tie.Need-returns
 returns c = omega arith ∙ sym (u32-is _ _)
 
-pub u32-in-spec : {M : Type 1} → statement M
-u32-in-spec =
+pub u32_in_spec : {M : Type 1} → statement M
+u32_in_spec =
     tie.close
     (tie.spec
     (λ c. search rules) (λ c κs. search rules) (λ c. search rules) (λ c. search rules) (λ c κs. search rules) (λ c. search rules) (λ c. search rules)

@@ -5,11 +5,11 @@ use Rattle.specification.proofs.Numbers.{byte_past}
 use Rattle.files.proofs.u8_at.Statement.{statement}
 use Rattle.files.proofs.u8_at.Tie as tie
 
-returns-2 : tie.Need-returns-2
-returns-2 c = sym (byte_past c.before.args.s.now _ c.if1.false)
+returns-2 : tie.Need-returns-else-at-s
+returns-2 c = sym (byte_past c.before.args.s.now _ c.if-at-s.false)
 
-pub u8-at-spec : {M : Type 1} → statement M
-u8-at-spec =
+pub u8_at_spec : {M : Type 1} → statement M
+u8_at_spec =
     tie.close
     (tie.spec
     (λ c. search rules) (λ c. search rules)

@@ -3,7 +3,7 @@ use mathlib.Core.Path.{◌≡◌, subst⁻¹}
 use mathlib.Core.Logic.{⊎_elim}
 use native.Mathlib.Omega.{arith}
 use borrow.Author.Rules.{rules}
-use borrow.Author.Tests.{eqb_true, not-true}
+use borrow.Author.Tests.{eqb-true, not-true}
 use Prim.Native.Nat.{◌<◌}
 use Rattle.words.specs.Words.{Below}
 use Rattle.lines.proofs.Laws.{by_rank_plain, by_rank_all, Ranking, ranking_none, ranking_more, ranking_all}
@@ -41,7 +41,7 @@ by-rank-spec =
     (λ c κs. search rules)
     (λ c. let p = c.before.requires in ⊎_elim
     (λ w. by_rank_plain p.1 p.2 (not-true _ w.taken))
-    (λ w. by_rank_all p.1 p.2 (subst⁻¹ (Below 4294967295 _) (eqb_true _ _ w.2.taken) w.1.ensures))
+    (λ w. by_rank_all p.1 p.2 (subst⁻¹ (Below 4294967295 _) (eqb-true _ _ w.2.taken) w.1.ensures))
     c.if1.branch)
     (λ c. ranking_none)
     (λ c κs. search rules)

@@ -14,34 +14,33 @@ use Rattle.specification.specs.Costs.{lifted_cost}
 use Rattle.rows.proofs.all_within.Statement.{statement}
 use Rattle.rows.proofs.all_within.Tie as tie
 
-abbrev invariant-loop : tie.invariant-loop
+abbrev invariant-loop : tie.invariant-loop-k
 invariant-loop s start count base limit within₀ k₀ within k =
     (k ≤ count) × (within ≡ every k (λ i. leb (lifted_cost base (u32_at s (start + 4 * i))) limit))
 
-abbrev decreases-loop : tie.decreases-loop
+abbrev decreases-loop : tie.decreases-loop-k
 decreases-loop s start count base limit within₀ k₀ within k = count - k
 
-loop-holds : tie.Need-loop-init invariant-loop decreases-loop
+loop-holds : tie.Need-loop-k-init invariant-loop decreases-loop
 unfolding every
 loop-holds c = (omega arith, refl)
 
-loop-again : tie.Need-loop-preserved invariant-loop decreases-loop
+loop-again : tie.Need-loop-k-preserved invariant-loop decreases-loop
 loop-again c =
-    let lifted-is = c.before.lifted.ensures ∙ ap (lifted_cost _) c.before.before.u32-in.ensures in
-    let l = c.before.before.before.before.loop in (
+    let lifted-is = c.before.lifted.ensures ∙ ap (lifted_cost _) c.before.before.u32_in.ensures in
+    let l = c.before.before.before.before.loop-k in (
       omega arith,
       ⊎_elim
-          (λ (if1, within-is). within-is ∙ rw (← every_more, lt-leb _ _ (rw lifted-is at if1.taken), and-false))
-          (λ (if1, within-is).
-          within-is ∙ l.invariant.1 ∙ rw (← every_more, le-leb _ _ (rw lifted-is at if1.left), and-true))
-          c.if1.branch,
+          (λ w. w.within-is ∙ rw (← every_more, lt-leb _ _ (rw lifted-is at w.if-limit-lifted.true), and-false))
+          (λ w. w.within-is ∙ l.invariant.1 ∙ rw (← every_more, le-leb _ _ (rw lifted-is at w.if-limit-lifted.false), and-true))
+          c.if-limit-lifted.branch-raw,
     )
 
 returns : tie.Need-returns invariant-loop decreases-loop
-returns c = let e : c.before.loop.k ≡ c.before.before.before.args.count = omega arith in rw e at c.before.loop.invariant.1
+returns c = let e : c.before.loop-k.k ≡ c.before.before.before.args.count = omega arith in rw e at c.before.loop-k.invariant.1
 
-pub all-within-spec : {M : Type 1} → statement M
-all-within-spec =
+pub all_within_spec : {M : Type 1} → statement M
+all_within_spec =
     tie.close
     (tie.spec
     invariant-loop

@@ -6,14 +6,14 @@ use Rattle.rows.proofs.Bits.{ones_below_le}
 use Rattle.rows.proofs.cost_in.Statement.{statement}
 use Rattle.rows.proofs.cost_in.Tie as tie
 
-few : (c : tie.After-count-below) → c.count-below.result ≤ 32
-few c = rw c.count-below.ensures (ones_below_le _ _ c.before.u32-at.type-inv)
+few : (c : tie.After-count_below) → c.count_below.result ≤ 32
+few c = rw c.count_below.ensures (ones_below_le _ _ c.before.u32_at-word.type_inv)
 
 returns : tie.Need-returns
-returns c = rw (c.u32-at2.ensures, c.before.count-below.ensures, c.before.before.u32-at.ensures)
+returns c = rw (c.u32_at.ensures, c.before.count_below.ensures, c.before.before.u32_at-word.ensures)
 
-pub cost-in-spec : {M : Type 1} → statement M
-cost-in-spec =
+pub cost_in_spec : {M : Type 1} → statement M
+cost_in_spec =
     tie.close
     (tie.spec
     (λ c κs. search rules) (λ c κs. search rules)

@@ -12,18 +12,18 @@ use Rattle.rows.proofs.read_costs.Statement.{statement}
 use Rattle.rows.proofs.read_costs.Tie as tie
 
 costs_are : (c : tie.After-count) → c.count.result ≡ ones (row_word c.before.before.before.args.row.now)
-costs_are c = rw c.before.u32-at.ensures at c.count.ensures
+costs_are c = rw c.before.u32_at.ensures at c.count.ensures
 
-returns : tie.Need-returns
+returns : tie.Need-returns-then-within
 returns c =
     let n = c.before.before in
     let known = n.before.before in
     let row : List ℕ = known.before.args.row.now in
-    let fits = u32_below row (λ i. omega (arith, known.shared-slice-known.given i)) in
-    sym (costs_low _ _ _ fits (rw (costs_are n) at (sym c.before.within.ensures ∙ c.if1.true)) _ _)
+    let fits = u32_below row (λ i. omega (arith, known.shared_slice_known-1.given i)) in
+    sym (costs_low _ _ _ fits (rw (costs_are n) at (sym c.before.within.ensures ∙ c.if-within.true)) _ _)
 
-pub read-costs-spec : {M : Type 1} → statement M
-read-costs-spec =
+pub read_costs_spec : {M : Type 1} → statement M
+read_costs_spec =
     tie.close
     (tie.spec
     (λ c κs. search rules) (λ c κs. search rules)

@@ -7,13 +7,13 @@ use Rattle.rows.proofs.size.Statement.{statement}
 use Rattle.rows.proofs.size.Tie as tie
 
 few : (c : tie.After-count) → c.count.result ≤ 32
-few c = rw c.count.ensures (ones-le 32 _ c.before.u32-at.type-inv)
+few c = rw c.count.ensures (ones-le 32 _ c.before.u32_at.type_inv)
 
 returns : tie.Need-returns
-returns c = rw (c.count.ensures, c.before.u32-at.ensures)
+returns c = rw (c.count.ensures, c.before.u32_at.ensures)
 
-pub size-spec : {M : Type 1} → statement M
-size-spec =
+pub size_spec : {M : Type 1} → statement M
+size_spec =
     tie.close
     (tie.spec
     (λ c κs. search rules) (λ c κs. search rules)

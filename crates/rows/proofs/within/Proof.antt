@@ -4,11 +4,11 @@ use borrow.Author.Tests.{eq-eqb, ne_eqb}
 use Rattle.rows.proofs.within.Statement.{statement}
 use Rattle.rows.proofs.within.Tie as tie
 
-returns : tie.Need-returns
-returns c = simp (eq-eqb _ _ c.before.if1.true) c.all-within.ensures
+returns : tie.Need-returns-then-version-eq2
+returns c = simp (eq-eqb _ _ c.before.if-version-eq2.true) c.all_within.ensures
 
-returns-2 : tie.Need-returns-2
-returns-2 c = simp (ne_eqb _ _ c.before.if1.false) c.all-within2.ensures
+returns-2 : tie.Need-returns
+returns-2 c = simp (ne_eqb _ _ c.before.if-version-eq2.false) c.all_within-2.ensures
 
-pub within-spec : {M : Type 1} → statement M
-within-spec = tie.close (tie.spec (λ c. search rules) (λ c κs. search rules) returns (λ c κs. search rules) returns-2)
+pub within_spec : {M : Type 1} → statement M
+within_spec = tie.close (tie.spec (λ c. search rules) (λ c κs. search rules) returns (λ c κs. search rules) returns-2)

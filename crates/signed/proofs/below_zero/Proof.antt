@@ -6,5 +6,5 @@ use Rattle.signed.proofs.below_zero.Tie as tie
 returns : tie.Need-returns
 returns c = search rules
 
-pub below-zero-spec : {M : Type 1} → statement M
-below-zero-spec = tie.close (tie.spec returns)
+pub below_zero_spec : {M : Type 1} → statement M
+below_zero_spec = tie.close (tie.spec returns)

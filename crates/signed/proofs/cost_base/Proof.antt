@@ -3,11 +3,11 @@ use Rattle.std.proofs.Common.{eq-eqb, ne_eqb}
 use Rattle.signed.proofs.cost_base.Statement.{statement}
 use Rattle.signed.proofs.cost_base.Tie as tie
 
-returns : tie.Need-returns
-returns c = simp (eq-eqb _ _ c.if1.true)
+returns : tie.Need-returns-then-version-eq2
+returns c = simp (eq-eqb _ _ c.if-version-eq2.true)
 
-returns-2 : tie.Need-returns-2
-returns-2 c = simp (ne_eqb _ _ c.if1.false)
+returns-2 : tie.Need-returns-else-version-eq2
+returns-2 c = simp (ne_eqb _ _ c.if-version-eq2.false)
 
-pub cost-base-spec : {M : Type 1} → statement M
-cost-base-spec = tie.close (tie.spec returns returns-2)
+pub cost_base_spec : {M : Type 1} → statement M
+cost_base_spec = tie.close (tie.spec returns returns-2)

@@ -8,8 +8,8 @@ use Rattle.signed.proofs.difference.Tie as tie
 read_is : (c : tie.Start) → to_z w64 c.args.a -ℤ to_z w64 c.args.b ≡ pos c.args.a -ℤ pos c.args.b
 read_is c = rw (to_z_pos w64 c.requires.0, to_z_pos w64 c.requires.1)
 
-fits : tie.Need-overflow-sub-result
+fits : tie.Need-overflow_sub-result
 fits c = rw (read_is c) (record { sfits = mag_difference c.args.a c.args.b _ (omega (arith, c.requires)) (omega (arith, c.requires)) })
 
-pub difference-spec : {M : Type 1} → statement M
-difference-spec = tie.close (tie.spec (λ c. search rules) (λ c. search rules) fits (λ c. to_z-of_z (fits c) ∙ read_is c))
+pub difference_spec : {M : Type 1} → statement M
+difference_spec = tie.close (tie.spec (λ c. search rules) (λ c. search rules) fits (λ c. to_z-of_z (fits c) ∙ read_is c))

@@ -8,13 +8,13 @@ returns : tie.Need-returns
 returns c =
     let b = c.before in
     let a = b.before in
-    rw (c.lifted.ensures, b.cost-base.ensures) (sym (cost_tested a.args.version a.args.held a.ranges.held.fits))
+    rw (c.lifted.ensures, b.cost_base-base.ensures) (sym (cost_tested a.args.version a.args.held a.ranges.held.fits))
 
-pub outside-spec : {M : Type 1} → statement M
-outside-spec =
+pub outside_spec : {M : Type 1} → statement M
+outside_spec =
     tie.close
     (tie.spec
     (λ c κs. search rules)
-    (λ c. omega (arith, c.cost-base.ensures, base_within c.before.args.version))
+    (λ c. omega (arith, c.cost_base-base.ensures, base_within c.before.args.version))
     (λ c κs. search rules)
     returns)

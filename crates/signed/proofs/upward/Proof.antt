@@ -8,11 +8,11 @@ use Rattle.signed.proofs.upward.Tie as tie
 read_is : (c : tie.Start) → to_z w64 (of_z w64 c.args.v) ≡ pos (mag c.args.v)
 read_is c = to_z-of_z c.ranges.v ∙ upward_is c.args.v c.requires
 
-cast-result : tie.Need-overflow-cast-result
+cast-result : tie.Need-overflow_cast-result
 cast-result c = rw (read_is c) (tt, mag_fits c.args.v c.ranges.v)
 
 returns : tie.Need-returns
 returns c = rw (read_is c)
 
-pub upward-spec : {M : Type 1} → statement M
-upward-spec = tie.close (tie.spec cast-result returns)
+pub upward_spec : {M : Type 1} → statement M
+upward_spec = tie.close (tie.spec cast-result returns)

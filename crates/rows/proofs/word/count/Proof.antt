@@ -5,7 +5,7 @@ use lib.Count.{ones-le}
 use Rattle.rows.proofs.word.count.Statement.{statement}
 use Rattle.rows.proofs.word.count.Tie as tie
 
-cast-result : tie.Need-overflow-cast-result
+cast-result : tie.Need-overflow_cast-result
 cast-result c = omega (arith, ones-le 32 c.args.word c.ranges.word.fits)
 
 pub count_spec : {M : Type 1} → statement M

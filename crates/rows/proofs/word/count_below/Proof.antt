@@ -8,19 +8,19 @@ use Rattle.rows.proofs.Bits.{below_power, one_shifted}
 use Rattle.rows.proofs.word.count_below.Statement.{statement}
 use Rattle.rows.proofs.word.count_below.Tie as tie
 
-returns : tie.Need-returns
+returns : tie.Need-returns-then-j-ge32
 returns c =
     let a = c.before.before in
-    c.count.ensures ∙ ap ones (sym (mod-eq_of_lt (below_power a.args.j a.ranges.word.fits c.before.if1.true)))
+    c.count.ensures ∙ ap ones (sym (mod-eq_of_lt (below_power a.args.j a.ranges.word.fits c.before.if-j-ge32.true)))
 
-rem_count : tie.Need-nonzero-rem-count
-rem_count c = rw (one_shifted _ c.if1.false) (pow_pos _)
+rem_count : tie.Need-nonzero_rem-word
+rem_count c = rw (one_shifted _ c.if-j-ge32.false) (pow_pos _)
 
-returns-2 : tie.Need-returns-2
-returns-2 c = rw (one_shifted _ c.before.if1.false) at c.count2.ensures
+returns-2 : tie.Need-returns
+returns-2 c = rw (one_shifted _ c.before.if-j-ge32.false) at c.count-2.ensures
 
-pub count-below-spec : {M : Type 1} → statement M
-count-below-spec =
+pub count_below_spec : {M : Type 1} → statement M
+count_below_spec =
     tie.close
     (tie.spec
     (λ c κs. search rules)

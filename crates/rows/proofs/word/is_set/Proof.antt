@@ -5,11 +5,11 @@ use Rattle.rows.proofs.Bits.{bit_past, below_power}
 use Rattle.rows.proofs.word.is_set.Statement.{statement}
 use Rattle.rows.proofs.word.is_set.Tie as tie
 
-returns : tie.Need-returns
-returns c = sym (bit_past _ c.before.args.j (below_power _ c.before.ranges.word.fits c.if1.true))
+returns : tie.Need-returns-then-j-ge32
+returns c = sym (bit_past _ c.before.args.j (below_power _ c.before.ranges.word.fits c.if-j-ge32.true))
 
-pub is-set-spec : {M : Type 1} → statement M
-is-set-spec =
+pub is_set_spec : {M : Type 1} → statement M
+is_set_spec =
     tie.close
     (tie.spec
     returns

@@ -6,14 +6,14 @@ use Rattle.rows.proofs.Bits.{below_power, one_shifted}
 use Rattle.rows.proofs.word.reaches.Statement.{statement}
 use Rattle.rows.proofs.word.reaches.Tie as tie
 
-returns : tie.Need-returns
-returns c = sym (lt-leb _ _ (below_power _ c.before.ranges.word.fits c.if1.true))
+returns : tie.Need-returns-then-j-ge32
+returns c = sym (lt-leb _ _ (below_power _ c.before.ranges.word.fits c.if-j-ge32.true))
 
-returns-2 : tie.Need-returns-2
-returns-2 c = rw (one_shifted _ c.if1.false)
+returns-2 : tie.Need-returns
+returns-2 c = rw (one_shifted _ c.if-j-ge32.false)
 
-pub reaches-spec : {M : Type 1} → statement M
-reaches-spec =
+pub reaches_spec : {M : Type 1} → statement M
+reaches_spec =
     tie.close
     (tie.spec
     returns
