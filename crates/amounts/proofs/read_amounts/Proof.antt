@@ -9,28 +9,28 @@ use Rattle.book.proofs.Readable.{counts_are}
 use Rattle.amounts.proofs.read_amounts.Statement.{statement}
 use Rattle.amounts.proofs.read_amounts.Tie as tie
 
-module _ (c : tie.After-known-told) where
+module _ (c : tie.In-Are) where
   abbrev size : Size
-  size = record { lots = c.before.counts.given.0.0; calls = c.before.counts.given.0.1.0 }
+  size = record { lots = c.in-Are.lots; calls = c.in-Are.calls }
 
-  counts-is : read_book c.before.before.before.before.before.before.args.book.now ≡ gives size
-  counts-is = sym c.before.before.before.read-book.ensures ∙ ap stated_counts c.before.counts.given.1
+  counts-is : read_book c.args.book.now ≡ gives size
+  counts-is = sym c.read_book-counts.ensures ∙ ap stated_counts c.in-Are.is
 
-returns : tie.Need-returns
+returns : tie.Need-returns-in_default
 unfolding read_amounts
-returns c = simp (c.enum_told.given.1, sym c.before.before.read-book.ensures)
+returns c = simp (c.in_default.is, sym c.read_book-counts.ensures)
 
-read-of-requires : tie.Need-read-of-requires
+read-of-requires : tie.Need-read_of-requires
 read-of-requires c κs =
     let k = counts_are _ (sym (counts-is c)) in
     (omega (arith, k.lots_is, k.known.lots_within), omega (arith, k.calls_is, k.known.calls_within))
 
-returns-2 : tie.Need-returns-2
+returns-2 : tie.Need-returns
 unfolding read_amounts
 returns-2 c = simp (counts-is c.before) c.read_of.ensures
 
-pub read-amounts-spec : {M : Type 1} → statement M
-read-amounts-spec =
+pub read_amounts_spec : {M : Type 1} → statement M
+read_amounts_spec =
     tie.close
     (tie.spec
     (λ c κs. search rules) (λ c. search rules) (λ c. search rules)

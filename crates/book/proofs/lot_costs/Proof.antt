@@ -25,55 +25,55 @@ stretch book i at size e f =
     rw (long, follows)
 
 -- the book is readable, and `lots` is its count of lots
-module _ (c : tie.After-known-told) where
+module _ (c : tie.In-Are) where
   abbrev start : tie.Start
-  start = c.before.before.before.before.before
+  start = c.before.before.before
 
   abbrev book : List ℕ
   book = start.args.book.now
 
   abbrev lots : ℕ
-  lots = c.before.counts.given.0.0
+  lots = c.in-Are.lots
 
-  gave : read_book book ≡ gives (record { lots = lots; calls = c.before.counts.given.0.1.0 })
-  gave = sym c.before.before.before.read-book.ensures ∙ ap stated_counts c.before.counts.given.1
+  gave : read_book book ≡ gives (record { lots = lots; calls = c.in-Are.field-1 })
+  gave = sym c.read_book-counts.ensures ∙ ap stated_counts c.in-Are.is
 
-  read : Read book lots c.before.counts.given.0.1.0
+  read : Read book lots c.in-Are.field-1
   read = counts_are _ (sym gave)
 
-in_book : (c : tie.Else1) → (start c.before).args.lot.0 < book_lots (book c.before)
-in_book c = rw (← (read c.before).lots_is) c.if1.false
+in_book : (c : tie.Else-lots-i) → (start c.before).args.lot.0 < book_lots (book c.before)
+in_book c = rw (← (read c.before).lots_is) c.if-lots-i.false
 
-inside : (c : tie.After-row-at) → (let l = c.before.before in let i = (start l).args.lot.0 in
-    c.row_at.result + row_size (row_at (book l) i) ≤ length (book l))
+inside : (c : tie.After-row_at-at) → (let l = c.before.before in let i = (start l).args.lot.0 in
+    c.row_at-at.result + row_size (row_at (book l) i) ≤ length (book l))
 inside c =
     let l = c.before.before in
-    omega (arith, c.row_at.ensures, row_inside (read l).known (start l).args.lot.0 (in_book c.before))
+    omega (arith, c.row_at-at.ensures, row_inside (read l).known (start l).args.lot.0 (in_book c.before))
 
 size_is : (c : tie.After-size) → (let l = c.before.before.before.before in
     c.size.result ≡ row_size (row_at (book l) (start l).args.lot.0))
-size_is c = rw (part_is_row _ _ c.before.before.row_at.ensures) at c.size.ensures
+size_is c = rw (part_is_row _ _ c.row_at-at.ensures) at c.size.ensures
 
-returns : tie.Need-returns
+returns : tie.Need-returns-in_default
 unfolding lot_costs
-returns c = simp (sym c.before.before.before.read-book.ensures ∙ ap stated_counts c.before.enum_told.given.1)
+returns c = simp (sym c.read_book-counts.ensures ∙ ap stated_counts c.in_default.is)
 
-returns-2 : tie.Need-returns-2
+returns-2 : tie.Need-returns-then-lots-i
 unfolding lot_costs
-returns-2 c = simp (gave c.before.before, le-ltb _ _ c.before.if1.true)
+returns-2 c = simp (gave c.before, le-ltb _ _ c.if-lots-i.true)
 
-row-at-requires : tie.Need-row-at-requires
+row-at-requires : tie.Need-row_at-at-requires
 row-at-requires c κs = ((read c.before).is_readable, in_book c)
 
-returns-3 : tie.Need-returns-3
+returns-3 : tie.Need-returns
 unfolding lot_costs
 returns-3 c =
     let n = c.before in
     let a = n.before.before in
-    simp (gave a.before.before, lt-ltb _ _ a.before.if1.false) (stretch _ _ _ _ a.row_at.ensures (size_is n))
+    simp (gave a.before.before, lt-ltb _ _ a.if-lots-i.false) (stretch _ _ _ _ a.row_at-at.ensures (size_is n))
 
-pub lot-costs-spec : {M : Type 1} → statement M
-lot-costs-spec =
+pub lot_costs_spec : {M : Type 1} → statement M
+lot_costs_spec =
     tie.close
     (tie.spec
     (λ c κs. search rules) (λ c. search rules) (λ c. search rules) (λ c. search rules)

@@ -15,15 +15,15 @@ use Rattle.book.proofs.read_book.Statement.{statement}
 use Rattle.book.proofs.read_book.Tie as tie
 
 -- the first seven bytes are read
-module _ (c : tie.After-known-told) where
+module _ (c : tie.In-Are) where
   abbrev book : List ℕ
-  book = c.before.before.before.before.before.args.book.now
+  book = c.args.book.now
 
   abbrev size : Size
-  size = record { lots = c.before.head.given.0.0; calls = c.before.head.given.0.1.0 }
+  size = record { lots = c.in-Are.lots; calls = c.in-Are.calls }
 
   head-is : read_head book ≡ gives size
-  head-is = sym c.before.before.before.read_head.ensures ∙ ap stated_counts c.before.head.given.1
+  head-is = sym c.read_head-head.ensures ∙ ap stated_counts c.in-Are.is
 
   headed : Headed book
   headed = (said_of_given (head_says book) size head-is).1
@@ -31,27 +31,27 @@ module _ (c : tie.After-known-told) where
   few : size.calls ≤ 32
   few = omega (arith, ap (λ (n : Size). n.calls) (said_of_given (head_says book) size head-is).0, headed.calls_within)
 
-returns : tie.Need-returns
+returns : tie.Need-returns-in_default
 unfolding read_book
-returns c = simp (c.enum_told.given.1, sym c.before.before.read_head.ensures)
+returns c = simp (c.in_default.is, sym c.read_head-head.ensures)
 
-rows_are : (c : tie.After-read-rows) → (let k = c.before.before.before in
-    stated_step c.read-rows.result ≡ read_rows (drop 7 (book k)) (book_version (book k)) 0 (size k).lots (size k).calls)
-rows_are c = rw (rest_is, c.before.version_of.ensures) at c.read-rows.ensures
+rows_are : (c : tie.After-read_rows-rows) → (let k = c.before.before.before in
+    stated_step c.read_rows-rows.result ≡ read_rows (drop 7 (book k)) (book_version (book k)) 0 (size k).lots (size k).calls)
+rows_are c = rw (rest_is, c.version_of.ensures) at c.read_rows-rows.ensures
 
-passed : (c : tie.After-read-rows) → (let k = c.before.before.before in
-    read_book (book k) ≡ (stated_step c.read-rows.result >>= λ _. gives (size k)))
+passed : (c : tie.After-read_rows-rows) → (let k = c.before.before.before in
+    read_book (book k) ≡ (stated_step c.read_rows-rows.result >>= λ _. gives (size k)))
 unfolding read_book
 passed c = simp (rows_are c, head-is c.before.before.before)
 
-returns-2 : tie.Need-returns-2
-returns-2 c = sym (rw c.enum-told2.given.1 at (passed c.before.before))
+returns-2 : tie.Need-returns-in-Passes
+returns-2 c = sym (rw c.in-Passes.is at (passed c.before))
 
-returns-3 : tie.Need-returns-3
-returns-3 c = sym (rw c.before.rows.given.1 at (passed c.before.before.before))
+returns-3 : tie.Need-returns-in-Refused
+returns-3 c = sym (rw c.in-Refused.is at (passed c.before))
 
-pub read-book-spec : {M : Type 1} → statement M
-read-book-spec =
+pub read_book_spec : {M : Type 1} → statement M
+read_book_spec =
     tie.close
     (tie.spec
     (λ c κs. search rules) (λ c. search rules) (λ c. search rules)

@@ -11,51 +11,51 @@ use Rattle.files.specs.Files.{stated_step}
 use Rattle.book.proofs.read_head.Statement.{statement}
 use Rattle.book.proofs.read_head.Tie as tie
 
-module _ (c : tie.After-enum-told) where
+module _ (c : tie.In_default) where
   abbrev book : List ℕ
-  book = c.before.before.before.before.before.args.book.now
+  book = c.args.book.now
 
   opens : read_opening book_mark 2 book ≡ gives tt
-  opens = sym c.before.before.read-opening.ensures ∙ ap stated_step c.enum_told.given.1
+  opens = sym c.read_opening-opening.ensures ∙ ap stated_step c.in_default.is
 
-module _ (c : tie.After-is-outside) where
-  abbrev opened : tie.After-enum-told
+module _ (c : tie.After-is_outside) where
+  abbrev opened : tie.In_default
   opened = c.before.before.before
 
-  lots-outside : {b : Bool} → c.is-outside.result ≡ b → count_outside (book_lots (book opened)) ≡ b
-  lots-outside e = rw (← c.before.before.u8-at.ensures) (sym c.is-outside.ensures ∙ e)
+  lots-outside : {b : Bool} → c.is_outside.result ≡ b → count_outside (book_lots (book opened)) ≡ b
+  lots-outside e = rw (← c.u8_at-lots.ensures) (sym c.is_outside.ensures ∙ e)
 
-module _ (c : tie.After-is-outside2) where
-  abbrev lots-read : tie.After-is-outside
+module _ (c : tie.After-is_outside-2) where
+  abbrev lots-read : tie.After-is_outside
   lots-read = c.before.before
 
-  calls-outside : {b : Bool} → c.is-outside2.result ≡ b → count_outside (book_calls (book (opened lots-read))) ≡ b
-  calls-outside e = rw (← lots-read.before.u8-at2.ensures) (sym c.is-outside2.ensures ∙ e)
+  calls-outside : {b : Bool} → c.is_outside-2.result ≡ b → count_outside (book_calls (book (opened lots-read))) ≡ b
+  calls-outside e = rw (← lots-read.u8_at-calls.ensures) (sym c.is_outside-2.ensures ∙ e)
 
-returns : tie.Need-returns
-returns c = simp (sym c.before.before.before.read-opening.ensures ∙ ap stated_step c.before.opening.given.1)
+returns : tie.Need-returns-in-Refused
+returns c = simp (sym c.read_opening-opening.ensures ∙ ap stated_step c.in-Refused.is)
 
-returns-2 : tie.Need-returns-2
-returns-2 c = simp (opens (opened c.before), lots-outside c.before c.if1.true)
+returns-2 : tie.Need-returns-then-is_outside
+returns-2 c = simp (opens (opened c.before), lots-outside c.before c.if-is_outside.true)
 
-returns-3 : tie.Need-returns-3
+returns-3 : tie.Need-returns-then-is_outside-2
 returns-3 c =
     let l = lots-read c.before in
-    simp (opens (opened l), lots-outside l c.before.before.if1.false, calls-outside c.before c.if2.true)
+    simp (opens (opened l), lots-outside l c.if-is_outside.false, calls-outside c.before c.if-is_outside-2.true)
 
-reads : (c : tie.Else2) → (let s = book (opened (lots-read c.before)) in
+reads : (c : tie.Else-is_outside-2) → (let s = book (opened (lots-read c.before)) in
     read_head s ≡ gives (record { lots = book_lots s; calls = book_calls s }))
 reads c =
     let l = lots-read c.before in
-    simp (opens (opened l), lots-outside l c.before.before.if1.false, calls-outside c.before c.if2.false)
+    simp (opens (opened l), lots-outside l c.if-is_outside.false, calls-outside c.before c.if-is_outside-2.false)
 
-returns-4 : tie.Need-returns-4
+returns-4 : tie.Need-returns
 returns-4 c =
     let l = lots-read c.before in
-    ap₂ (λ (n m : ℕ). gives (record { lots = n; calls = m })) l.before.before.u8-at.ensures l.before.u8-at2.ensures ∙ sym (reads c)
+    ap₂ (λ (n m : ℕ). gives (record { lots = n; calls = m })) l.before.before.u8_at-lots.ensures l.before.u8_at-calls.ensures ∙ sym (reads c)
 
-pub read-head-spec : {M : Type 1} → statement M
-read-head-spec =
+pub read_head_spec : {M : Type 1} → statement M
+read_head_spec =
     tie.close
     (tie.spec
     (λ c κs. search rules) (λ c. search rules)

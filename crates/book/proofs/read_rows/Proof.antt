@@ -19,86 +19,86 @@ use Rattle.book.proofs.Rows.{rows_step, rows_end}
 use Rattle.book.proofs.read_rows.Statement.{statement}
 use Rattle.book.proofs.read_rows.Tie as tie
 
-abbrev invariant-loop : tie.invariant-loop
+abbrev invariant-loop : tie.invariant-loop-lot
 invariant-loop rows version lots calls all at₀ lot₀ at lot =
     (lot ≤ lots) × (at ≤ length rows) × (read_rows rows version 0 lots calls ≡ read_rows (drop at rows) version lot (lots - lot) calls)
 
-abbrev decreases-loop : tie.decreases-loop
+abbrev decreases-loop : tie.decreases-loop-lot
 decreases-loop rows version lots calls all at₀ lot₀ at lot = lots - lot
 
-loop-holds : tie.Need-loop-init invariant-loop decreases-loop
+loop-holds : tie.Need-loop-lot-init invariant-loop decreases-loop
 loop-holds c =
-    let a = c.before.before.args in
+    let a = c.args in
     (omega arith, omega arith, ap (λ (n : ℕ). read_rows a.rows.now a.version 0 n a.calls) (omega arith))
 
 -- the reply of the row that the loop is at, and what is left after it
-module _ (c : tie.After-read-row invariant-loop decreases-loop) where
-  abbrev loop : tie.At-loop invariant-loop decreases-loop
+module _ (c : tie.After-read_row-step invariant-loop decreases-loop) where
+  abbrev loop : tie.At-loop-lot invariant-loop decreases-loop
   loop = c.before.before.before
 
   abbrev rows : List ℕ
-  rows = loop.before.before.before.args.rows.now
+  rows = loop.args.rows.now
 
   abbrev version : ℕ
-  version = loop.before.before.before.args.version
+  version = loop.args.version
 
   abbrev calls : ℕ
-  calls = loop.before.before.before.args.calls
+  calls = loop.args.calls
 
   abbrev row : List ℕ
-  row = drop loop.loop.at rows
+  row = drop loop.loop-lot.at rows
 
-  row_is : read_row row version loop.loop.lot calls ≡ stated_step c.read-row.result
-  row_is = sym (rw rest_is at c.read-row.ensures)
+  row_is : read_row row version loop.loop-lot.lot calls ≡ stated_step c.read_row-step.result
+  row_is = sym (rw rest_is at c.read_row-step.ensures)
 
-  step_is : {r : Reply (Unit {0})} → stated_step c.read-row.result ≡ r → (let lots = loop.before.before.before.args.lots in
+  step_is : {r : Reply (Unit {0})} → stated_step c.read_row-step.result ≡ r → (let lots = loop.args.lots in
       read_rows rows version 0 lots calls
-      ≡ (r >>= λ _. read_rows (drop (row_size row) row) version (loop.loop.lot + 1) (lots - (loop.loop.lot + 1)) calls))
-  step_is e = loop.loop.inv.2 ∙ rows_step _ _ _ _ _ c.before.before.loop-test.true (row_is ∙ e)
+      ≡ (r >>= λ _. read_rows (drop (row_size row) row) version (loop.loop-lot.lot + 1) (lots - (loop.loop-lot.lot + 1)) calls))
+  step_is e = loop.loop-lot.invariant.2 ∙ rows_step _ _ _ _ _ c.loop-lot-test.true (row_is ∙ e)
 
-returns : tie.Need-returns invariant-loop decreases-loop
-returns c = sym (step_is c.before.before.before (ap stated_step c.before.step.given.1))
+returns : tie.Need-returns-in-Refused invariant-loop decreases-loop
+returns c = sym (step_is c.before (ap stated_step c.in-Refused.is))
 
 -- a row that passes stands whole in what is left
-module _ (c : tie.After-size invariant-loop decreases-loop) where
-  abbrev read : tie.After-read-row invariant-loop decreases-loop
-  read = c.before.before.before
+module _ (c : tie.After-size-at invariant-loop decreases-loop) where
+  abbrev read : tie.After-read_row-step invariant-loop decreases-loop
+  read = c.before.before
 
-  size_is : c.size.result ≡ row_size (row read)
-  size_is = rw rest_is at c.size.ensures
+  size_is : c.size-at.result ≡ row_size (row read)
+  size_is = rw rest_is at c.size-at.ensures
 
-  inside : (loop read).loop.at + c.size.result ≤ length (rows read)
+  inside : (loop read).loop-lot.at + c.size-at.result ≤ length (rows read)
   inside =
-      let known = said_of_given (row_says (row read) _ _ _) tt (row_is read ∙ ap stated_step c.before.enum_told.given.1) in
-      omega (arith, size_is, known.costs_whole, (loop read).loop.inv.1, length-drop (loop read).loop.at (rows read))
+      let known = said_of_given (row_says (row read) _ _ _) tt (row_is read ∙ ap stated_step c.in_default.is) in
+      omega (arith, size_is, known.costs_whole, (loop read).loop-lot.invariant.1, length-drop (loop read).loop-lot.at (rows read))
 
-  next-part : drop (row_size (row read)) (row read) ≡ drop ((loop read).loop.at + c.size.result) (rows read)
+  next-part : drop (row_size (row read)) (row read) ≡ drop ((loop read).loop-lot.at + c.size-at.result) (rows read)
   next-part =
-      drop-drop (row_size (row read)) (loop read).loop.at (rows read)
-      ∙ ap (λ (k : ℕ). drop ((loop read).loop.at + k) (rows read)) (sym size_is)
+      drop-drop (row_size (row read)) (loop read).loop-lot.at (rows read)
+      ∙ ap (λ (k : ℕ). drop ((loop read).loop-lot.at + k) (rows read)) (sym size_is)
 
-loop-again : tie.Need-loop-preserved invariant-loop decreases-loop
+loop-again : tie.Need-loop-lot-preserved invariant-loop decreases-loop
 loop-again c = (
   omega arith,
   inside c,
-  step_is (read c) (ap stated_step c.before.enum_told.given.1) ∙ rw (next-part c),
+  step_is (read c) (ap stated_step c.in_default.is) ∙ rw (next-part c),
 )
 
-end_is : (c : tie.After-loop invariant-loop decreases-loop) {b : Bool} → (let l = c.before in let a = l.before.before.before.args in
-    ltb l.loop.at (length a.rows.now) ≡ b → read_rows a.rows.now a.version 0 a.lots a.calls ≡ refuse_if b 8 [])
+end_is : (c : tie.After-loop-lot invariant-loop decreases-loop) {b : Bool} → (let l = c.before in let a = l.args in
+    ltb l.loop-lot.at (length a.rows.now) ≡ b → read_rows a.rows.now a.version 0 a.lots a.calls ≡ refuse_if b 8 [])
 end_is c e =
     let l = c.before in
-    let a = l.before.before.before.args in
-    rw (← e) (l.loop.invariant.2 ∙ rows_end a.version a.lots l.loop.lot a.calls l.loop.at a.rows.now c.loop-test.false)
+    let a = l.args in
+    rw (← e) (l.loop-lot.invariant.2 ∙ rows_end a.version a.lots l.loop-lot.lot a.calls l.loop-lot.at a.rows.now c.loop-lot-test.false)
 
-returns-2 : tie.Need-returns-2 invariant-loop decreases-loop
-returns-2 c = sym (end_is c.before (lt-ltb _ _ c.if1.true))
+returns-2 : tie.Need-returns-then-at-rows invariant-loop decreases-loop
+returns-2 c = sym (end_is c.before (lt-ltb _ _ c.if-at-rows.true))
 
-returns-3 : tie.Need-returns-3 invariant-loop decreases-loop
-returns-3 c = sym (end_is c.before (le-ltb _ _ c.if1.false))
+returns-3 : tie.Need-returns invariant-loop decreases-loop
+returns-3 c = sym (end_is c.before (le-ltb _ _ c.if-at-rows.false))
 
-pub read-rows-spec : {M : Type 1} → statement M
-read-rows-spec =
+pub read_rows_spec : {M : Type 1} → statement M
+read_rows_spec =
     tie.close
     (tie.spec
     invariant-loop
@@ -106,7 +106,7 @@ read-rows-spec =
     (λ c κs. search rules)
     loop-holds
     (λ c. search rules) (λ c. search rules) (λ c. search rules)
-    (λ c κs. c.before.before.before.all-calls.ensures)
+    (λ c κs. c.all_calls-all.ensures)
     (λ c. search rules)
     returns
     (λ c. search rules)

@@ -9,22 +9,22 @@ use Rattle.lines.proofs.Laws.{all_with}
 use Rattle.lines.proofs.column_of.Statement.{statement}
 use Rattle.lines.proofs.column_of.Tie as tie
 
-abbrev invariant-loop : tie.invariant-loop
+abbrev invariant-loop : tie.invariant-loop-i
 invariant-loop lefts call word₀ i₀ word i = (i ≤ 32) × Begins (λ x. is_left lefts x call.0) i word
 
-abbrev decreases-loop : tie.decreases-loop
+abbrev decreases-loop : tie.decreases-loop-i
 decreases-loop lefts call word₀ i₀ word i = 32 - i
 
-loop-again : tie.Need-loop-preserved invariant-loop decreases-loop
-loop-again c = (omega arith, begins_more _ _ _ _ c.before.before.before.before.loop.invariant.1 (rw c.before.is_set.ensures at c.including-if.ensures))
+loop-again : tie.Need-loop-i-preserved invariant-loop decreases-loop
+loop-again c = (omega arith, begins_more _ _ _ _ c.loop-i.invariant.1 (rw c.is_set.ensures at c.including_if-word.ensures))
 
 returns : tie.Need-returns invariant-loop decreases-loop
 returns c =
-    let e : c.before.loop.i ≡ 32 = omega arith in
-    all_with c.before.before.args.lefts.now _ _ c.before.before.requires (rw e at c.before.loop.invariant.1)
+    let e : c.loop-i.i ≡ 32 = omega arith in
+    all_with c.args.lefts.now _ _ c.requires (rw e at c.loop-i.invariant.1)
 
-pub column-of-spec : {M : Type 1} → statement M
-column-of-spec =
+pub column_of_spec : {M : Type 1} → statement M
+column_of_spec =
     tie.close
     (tie.spec
     invariant-loop

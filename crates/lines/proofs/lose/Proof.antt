@@ -14,16 +14,16 @@ returns c =
     let left = one.before.before.before.before in
     let start = left.before.before in
     let a = start.args in
-    let row = two.before.before.before.before.set_line.ensures in
-    let column = c.set-line2.ensures in
+    let row = two.set_line.ensures in
+    let column = c.set_line-2.ensures in
     let taken = taken_set _ a.lefts.now (omega arith) left.without.ensures.out left.without.ensures.others in
     let rest = lost a.call.0 start.requires.0.0 start.requires.0.1 start.requires.1.3 start.requires.1.2 taken row column
-    (taken_line row (rw one.before.wide.ensures at one.without2.ensures))
-    (taken_line column (rw (zero-add a.lot.0, ← two.before.wide2.ensures) two.without3.ensures)) in
+    (taken_line row (rw one.wide.ensures at one.without-row.ensures))
+    (taken_line column (rw (zero-add a.lot.0, ← two.wide-2.ensures) two.without-column.ensures)) in
     (taken, rest)
 
-pub lose-spec : {M : Type 1} → statement M
-lose-spec =
+pub lose_spec : {M : Type 1} → statement M
+lose_spec =
     tie.close
     (tie.spec
     (λ c. search rules)
@@ -36,14 +36,14 @@ lose-spec =
     (λ c. search rules)
     (λ c. search rules)
     (λ c κs. search rules)
-    (λ c κs. let p = c.before.before.before.before.before.requires in omega (arith, p.0.0.within _ _ (p.0.0.row _ _ p.1.2).is_on))
+    (λ c κs. let p = c.requires in omega (arith, p.0.0.within _ _ (p.0.0.row _ _ p.1.2).is_on))
     (λ c κs. search rules)
     (λ c. search rules)
     (λ c. search rules)
     (λ c. search rules)
     (λ c. search rules)
     (λ c κs. search rules)
-    (λ c κs. let p = c.before.before.before.before.before.before.before.before.before.before.before.before.before.requires in
+    (λ c κs. let p = c.requires in
     omega (arith, p.0.0.within _ _ (simp zero-add at (p.0.0.column _ _ p.1.2).is_on)))
     (λ c. search rules)
     (λ c κs. search rules)

@@ -5,13 +5,13 @@ use Rattle.lines.proofs.Laws.{set_none, set_some}
 use Rattle.lines.proofs.set_line.Statement.{statement}
 use Rattle.lines.proofs.set_line.Tie as tie
 
-pub set-line-spec : {M : Type 1} → statement M
-set-line-spec =
+pub set_line_spec : {M : Type 1} → statement M
+set_line_spec =
     tie.close
     (tie.spec
     (λ c. search rules)
     (λ c. search rules)
-    (λ c. set_none _ _ _ _ _ _ (omega arith) c.if1.true)
+    (λ c. set_none _ _ _ _ _ _ (omega arith) c.if-word-eq0.true)
     (λ c κs. search rules)
     (λ c. search rules)
     (λ c. search rules)
@@ -20,4 +20,4 @@ set-line-spec =
     (λ c. search rules)
     (λ c. search rules)
     (λ c. search rules)
-    (λ c. set_some _ _ _ _ _ _ (omega arith) (omega arith) (omega arith) c.before.before.before.lowest.ensures.0 c.before.highest.ensures.0))
+    (λ c. set_some _ _ _ _ _ _ (omega arith) (omega arith) (omega arith) c.lowest.ensures.0 c.highest.ensures.0))

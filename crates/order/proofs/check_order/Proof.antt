@@ -9,27 +9,27 @@ use Rattle.order.proofs.check_order.Statement.{statement}
 use Rattle.order.proofs.check_order.Tie as tie
 
 -- the book is readable
-module _ (c : tie.After-known-told) where
+module _ (c : tie.In-Are) where
   abbrev start : tie.Start
-  start = c.before.before.before.before.before.before
+  start = c.before.before.before.before
 
   counts-is : read_book start.args.book.now
-      ≡ gives (record { lots = c.before.counts.given.0.0; calls = c.before.counts.given.0.1.0 })
-  counts-is = sym c.before.before.before.read-book.ensures ∙ ap stated_counts c.before.counts.given.1
+      ≡ gives (record { lots = c.in-Are.n; calls = c.in-Are.m })
+  counts-is = sym c.read_book-counts.ensures ∙ ap stated_counts c.in-Are.is
 
-returns : tie.Need-returns
+returns : tie.Need-returns-in_default
 unfolding check_order
-returns c = simp (c.refusal-of.ensures, c.before.enum_told.given.1, sym c.before.before.before.read-book.ensures)
+returns c = simp (c.refusal_of.ensures, c.in_default.is, sym c.read_book-counts.ensures)
 
-offsets-requires : tie.Need-offsets-requires
+offsets-requires : tie.Need-offsets-offsets-requires
 offsets-requires c κs =
     let read = counts_are (start c).args.book.now (sym (counts-is c)) in (read.is_readable, read.lots_is)
 
-check-by-requires : tie.Need-check-by-requires
-check-by-requires c κs = (counts-is c.before.before, c.before.offsets.ensures)
+check-by-requires : tie.Need-check_by-requires
+check-by-requires c κs = (counts-is c.before.before, c.offsets-offsets.ensures)
 
-pub check-order-spec : {M : Type 1} → statement M
-check-order-spec =
+pub check_order_spec : {M : Type 1} → statement M
+check_order_spec =
     tie.close
     (tie.spec
     (λ c κs. search rules) (λ c. search rules) (λ c. search rules) (λ c κs. search rules)

@@ -6,10 +6,10 @@ use Rattle.ranks.specs.Numbered.{compared_of}
 use Rattle.ranks.proofs.fill.Statement.{statement}
 use Rattle.ranks.proofs.fill.Tie as tie
 
-abbrev invariant-loop : tie.invariant-loop
+abbrev invariant-loop : tie.invariant-loop-x
 invariant-loop ranked slacks compared₀ x₀ compared x = (x ≤ 1024) × Filled (λ y v. v ≡ compared_of ranked (get_or slacks y 0)) x compared₀ compared
 
-abbrev decreases-loop : tie.decreases-loop
+abbrev decreases-loop : tie.decreases-loop-x
 decreases-loop ranked slacks compared₀ x₀ compared x = 1024 - x
 
 pub fill_spec : {M : Type 1} → statement M
@@ -21,10 +21,10 @@ fill_spec =
     (λ c. (omega arith, filled_none refl))
     (λ c. omega arith)
     (λ c. omega arith)
-    (λ c κs. c.before.before.before.requires.0 _)
+    (λ c κs. c.requires.0 _)
     (λ c. omega arith)
     (λ c. omega arith)
     (λ c. omega arith)
     (λ c. omega arith)
-    (λ c. (omega arith, filled_more c.before.before.before.loop.invariant.1 _ (omega arith) c.compared-of.ensures))
-    (λ c. let f = c.before.loop.invariant.1 in record { each = λ x h. f.passed x (omega arith); long = f.long ∙ c.before.before.requires.1 }))
+    (λ c. (omega arith, filled_more c.loop-x.invariant.1 _ (omega arith) c.compared_of.ensures))
+    (λ c. let f = c.loop-x.invariant.1 in record { each = λ x h. f.passed x (omega arith); long = f.long ∙ c.requires.1 }))

@@ -5,14 +5,14 @@ use Rattle.slacks.proofs.Entering.{filled_none, filled_more}
 use Rattle.ranks.proofs.numbers.Statement.{statement}
 use Rattle.ranks.proofs.numbers.Tie as tie
 
-abbrev invariant-loop : tie.invariant-loop
+abbrev invariant-loop : tie.invariant-loop-x
 invariant-loop lines₀ x₀ lines x = (x ≤ 64) × Filled (λ k line. line ≡ k % 32) x (replicate 64 0) lines
 
-abbrev decreases-loop : tie.decreases-loop
+abbrev decreases-loop : tie.decreases-loop-x
 decreases-loop lines₀ x₀ lines x = 64 - x
 
-pub numbers-spec : {M : Type 1} → statement M
-numbers-spec =
+pub numbers_spec : {M : Type 1} → statement M
+numbers_spec =
     tie.close
     (tie.spec
     invariant-loop
@@ -22,5 +22,5 @@ numbers-spec =
     (λ c. omega arith)
     (λ c. omega arith)
     (λ c. omega arith)
-    (λ c. (omega arith, filled_more c.before.loop.invariant.1 _ c.loop-test.true refl))
-    (λ c. (c.before.loop.invariant.1.long, λ x h. c.before.loop.invariant.1.passed x (omega arith))))
+    (λ c. (omega arith, filled_more c.loop-x.invariant.1 _ c.loop-x-test.true refl))
+    (λ c. (c.loop-x.invariant.1.long, λ x h. c.loop-x.invariant.1.passed x (omega arith))))

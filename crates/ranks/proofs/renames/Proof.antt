@@ -4,25 +4,25 @@ use Rattle.transport.proofs.Laws.Tests.{T_of}
 use Rattle.ranks.proofs.renames.Statement.{statement}
 use Rattle.ranks.proofs.renames.Tie as tie
 
-abbrev invariant-loop : tie.invariant-loop
+abbrev invariant-loop : tie.invariant-loop-x
 invariant-loop names ranks from n x₀ x =
     (x ≤ n) × ((k : ℕ) → k < x → (get_or ranks (from + k) 0 < n) × (get_or names (from + k) 0 < n)
     × (get_or names (from + get_or ranks (from + k) 0) 0 ≡ k) × (get_or ranks (from + get_or names (from + k) 0) 0 ≡ k))
 
-abbrev decreases-loop : tie.decreases-loop
+abbrev decreases-loop : tie.decreases-loop-x
 decreases-loop names ranks from n x₀ x = n - x
 
-returns-5 : tie.Need-returns-5 invariant-loop decreases-loop
+returns-5 : tie.Need-returns invariant-loop decreases-loop
 returns-5 c =
-    λ e. let passed = c.before.loop.invariant.1 in record {
+    λ e. let passed = c.loop-x.invariant.1 in record {
       rank_below = λ i h. (passed i (omega arith)).0;
       at_below = λ p h. (passed p (omega arith)).1;
       at_rank = λ i h. (passed i (omega arith)).2;
       rank_at = λ p h. (passed p (omega arith)).3;
     }
 
-pub renames-spec : {M : Type 1} → statement M
-renames-spec =
+pub renames_spec : {M : Type 1} → statement M
+renames_spec =
     tie.close
     (tie.spec
     invariant-loop

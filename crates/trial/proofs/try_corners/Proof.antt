@@ -18,34 +18,34 @@ hindered-told low high e = rw e
 
 -- the tests are at the ends
 module _ (c : tie.After-fits3) where
-  abbrev bottom : tie.After-wide4
+  abbrev bottom : tie.After-wide-bottom
   bottom = c.before.before
 
-  abbrev top : tie.After-wide3
+  abbrev top : tie.After-wide-top
   top = bottom.before.before
 
-  abbrev last : tie.After-wide2
+  abbrev last : tie.After-wide-last
   last = top.before.before
 
-  abbrev first : tie.After-wide
+  abbrev first : tie.After-wide-first
   first = last.before.before
 
   abbrev fit : ℕ → ℕ → Bool
-  fit k l = let a = first.before.before.args in fits_by a.costs.now a.lot.0 a.call.0 k l
+  fit k l = let a = first.args in fits_by a.costs.now a.lot.0 a.call.0 k l
 
   abbrev nears : List ℕ
-  nears = first.before.before.args.nears.now
+  nears = first.args.nears.now
 
   abbrev fars : List ℕ
-  fars = first.before.before.args.fars.now
+  fars = first.args.fars.now
 
-  tells : let a = first.before.before.args in corners_tell c.before.fits2.result c.fits3.result
+  tells : let a = first.args in corners_tell c.before.fits-high.result c.fits3.result
       ≡ corners_tell (fit (get_or fars (32 + a.call.0) 0) (get_or nears a.lot.0 0)) (fit (get_or nears (32 + a.call.0) 0) (get_or fars a.lot.0 0))
-  tells = ap₂ corners_tell (c.before.fits2.ensures ∙ ap₂ fit bottom.wide4.ensures first.wide.ensures)
-      (c.fits3.ensures ∙ ap₂ fit top.wide3.ensures last.wide2.ensures)
+  tells = ap₂ corners_tell (c.before.fits-high.ensures ∙ ap₂ fit bottom.wide-bottom.ensures first.wide-first.ensures)
+      (c.fits3.ensures ∙ ap₂ fit top.wide-top.ensures last.wide-last.ensures)
 
-pub try-corners-spec : {M : Type 1} → statement M
-try-corners-spec =
+pub try_corners_spec : {M : Type 1} → statement M
+try_corners_spec =
     tie.close
     (tie.spec
     (λ c. search rules)
@@ -60,6 +60,6 @@ try-corners-spec =
     (λ c κs. search rules)
     (λ c κs. search rules)
     (λ c κs. search rules)
-    (λ c. sym (ap₂ corners_tell c.before.if1.true c.if2.true) ∙ tells c.before.before)
-    (λ c. hindered-told c.before.before.fits2.result c.before.fits3.result (⊎_elim (λ w. ap₂ ◌&&◌ w.0.taken w.1.left) (λ w. ap (λ (b : Bool). b && c.before.fits3.result) w.left) c.if1.branch)
+    (λ c. sym (ap₂ corners_tell c.if-low.true c.if-high.true) ∙ tells c.before.before)
+    (λ c. hindered-told c.fits-high.result c.before.fits3.result (⊎_elim (λ w. ap₂ ◌&&◌ w.0.true w.1.left) (λ w. ap (λ (b : Bool). b && c.before.fits3.result) w.left) c.else-low.branch-raw)
     ∙ tells c.before))

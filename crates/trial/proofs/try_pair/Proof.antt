@@ -14,103 +14,103 @@ use Rattle.trial.proofs.Cornering.{can_ask, corners_tell_lem}
 use Rattle.trial.proofs.try_pair.Statement.{statement}
 use Rattle.trial.proofs.try_pair.Tie as tie
 
-abbrev invariant-loop : tie.invariant-loop
+abbrev invariant-loop : tie.invariant-loop-lots
 invariant-loop slacks ranked names ranks eligible lefts lines nears fars compared passed₀ i j others lots₀ passed lots =
     ToAsk slacks ranks lefts lines i j lots × (passed ≡ passed₀)
 
-abbrev decreases-loop : tie.decreases-loop
+abbrev decreases-loop : tie.decreases-loop-lots
 decreases-loop slacks ranked names ranks eligible lefts lines nears fars compared passed₀ i j others lots₀ passed lots = lots
 
 few : (c : tie.Start invariant-loop decreases-loop) → (c.args.lot.0 < 32) × (c.args.call.0 < 32)
 few c = own_few c.requires.0
 
-returns : tie.Need-returns invariant-loop decreases-loop
-returns c = let s = c.before.before in (rw c.try-corners.ensures (corners_tell_lem s.requires.0 c.before.if1.true), s.requires.1)
+returns : tie.Need-returns-then-ranked invariant-loop decreases-loop
+returns c = let s = c.before.before in (rw c.try_corners.ensures (corners_tell_lem s.requires.0 c.if-ranked.true), s.requires.1)
 
-returns-2 : tie.Need-returns-2 invariant-loop decreases-loop
-returns-2 c = let p = c.before.before.before.before.requires in (passes_last p.0 c.before.without.ensures c.if2.true, p.1)
+returns-2 : tie.Need-returns-then-without-eq0 invariant-loop decreases-loop
+returns-2 c = let p = c.requires in (passes_last p.0 c.without.ensures c.if-without-eq0.true, p.1)
 
-abbrev start : tie.After-minus invariant-loop decreases-loop → tie.Start invariant-loop decreases-loop
+abbrev start : tie.After-minus-lots invariant-loop decreases-loop → tie.Start invariant-loop decreases-loop
 start c = c.before.before.before.before.before.before.before.before.before.before.before.before
 
-loop-holds : tie.Need-loop-init invariant-loop decreases-loop
+loop-holds : tie.Need-loop-lots-init invariant-loop decreases-loop
 loop-holds c =
     let o = c.before.before.before.before in
     let (t, p) = (start c).requires in
-    let ask = to_ask_others t (rw o.before.wide.ensures at o.without2.ensures) in
-    (to_ask_from t ask p (omega (arith, c.before.before.wide2.ensures)) c.before.below.ensures c.minus.ensures, refl)
+    let ask = to_ask_others t (rw o.wide.ensures at o.without-others.ensures) in
+    (to_ask_from t ask p (omega (arith, c.wide-2.ensures)) c.below.ensures c.minus-lots.ensures, refl)
 
 -- the lot that is asked still has the call, and there are no ranks
-module _ (c : tie.After-wide3 invariant-loop decreases-loop) where
-  abbrev top : tie.At-loop invariant-loop decreases-loop
+module _ (c : tie.After-wide-k invariant-loop decreases-loop) where
+  abbrev top : tie.At-loop-lots invariant-loop decreases-loop
   top = c.before.before.before.before
 
   abbrev s : tie.Start invariant-loop decreases-loop
   s = start top.before
 
-  held : is_left s.args.lefts.now c.wide3.result s.args.call.0 ≡ true
-  held = holder s.pre.0 top.loop.inv.0 c.wide3.ensures c.before.before.lowest.ensures.0
+  held : is_left s.args.lefts.now c.wide-k.result s.args.call.0 ≡ true
+  held = holder s.requires.0 top.loop-lots.invariant.0 c.wide-k.ensures c.lowest-p.ensures.0
 
-  asked-few : c.wide3.result < 32
-  asked-few = (left_few s.pre.0 _ _ held).0
+  asked-few : c.wide-k.result < 32
+  asked-few = (left_few s.requires.0 _ _ held).0
 
   plain : s.args.ranked ≡ false
-  plain = top.before.before.before.before.before.before.before.before.before.before.before.before.if1.left
+  plain = top.if-ranked.false
 
 misfits-requires : tie.Need-misfits-requires invariant-loop decreases-loop
 misfits-requires c κs =
     let e = c.before.before.before.before in
-    let t = (s e).requires.0 in
-    ((own_few t).0, (own_few t).1, asked-few e, t.tabled.table.slacks_are.capped, (t.left.raised_is (plain e)).low)
+    let t = (s e.before.before).requires.0 in
+    ((own_few t).0, (own_few t).1, asked-few e.before.before, t.tabled.table.slacks_are.capped, (t.left.raised_is (plain e.before.before)).low)
 
-returns-3 : tie.Need-returns-3 invariant-loop decreases-loop
+returns-3 : tie.Need-returns-then-minus-gt0 invariant-loop decreases-loop
 returns-3 c =
     let e = c.before.before.before.before in
-    let (t, p) = (s e).requires in (
+    let (t, p) = (s e.before.before.before).requires in (
       ⊎_elim
-          (λ w. hinders_missing t _ (held e) (plain e) c.before.minus2.ensures w.taken)
-          (λ w. hinders_misfit t _ (held e) (plain e) w.1.ensures w.2.taken)
-          c.if3.branch,
-      rw (top e).loop.invariant.1 (passed_next t (top e).loop.invariant.0 p e.before.before.lowest.ensures.0),
+          (λ w. hinders_missing t _ (held e.before.before.before) (plain e.before.before.before) c.minus.ensures w.true)
+          (λ w. hinders_misfit t _ (held e.before.before.before) (plain e.before.before.before) w.1.ensures w.2.true)
+          c.then-minus-gt0.branch-raw,
+      rw (top e.before.before.before).loop-lots.invariant.1 (passed_next t (top e.before.before.before).loop-lots.invariant.0 p e.lowest-p.ensures.0),
     )
 
-loop-less : tie.Need-loop-smaller invariant-loop decreases-loop
-loop-less c = c.without3.ensures.lower c.before.before.before.before.before.before.before.before.before.lowest.ensures.0.is_in
+loop-less : tie.Need-loop-lots-smaller invariant-loop decreases-loop
+loop-less c = c.without-lots.ensures.lower c.lowest-p.ensures.0.is_in
 
-loop-again : tie.Need-loop-preserved invariant-loop decreases-loop
+loop-again : tie.Need-loop-lots-preserved invariant-loop decreases-loop
 loop-again c =
     let two = c.before.before.before in
     let e = two.before.before.before.before in
-    let t = (s e).requires.0 in
-    let passes = lets_pass t _ (held e) (plain e) two.before.minus2.ensures two.if3.false c.before.before.misfits.ensures c.before.if4.false in
-    (to_ask_next t (top e).loop.invariant.0 e.wide3.ensures passes c.without3.ensures, (top e).loop.invariant.1)
+    let t = (s e.before.before).requires.0 in
+    let passes = lets_pass t _ (held e.before.before) (plain e.before.before) two.minus.ensures two.if-minus-gt0.false c.misfits.ensures c.if-misfits.false in
+    (to_ask_next t (top e.before.before).loop-lots.invariant.0 e.wide-k.ensures passes c.without-lots.ensures, (top e.before.before).loop-lots.invariant.1)
 
-returns-4 : tie.Need-returns-4 invariant-loop decreases-loop
+returns-4 : tie.Need-returns invariant-loop decreases-loop
 returns-4 c =
-    let (t, p) = (start c.before.before).pre in
-    (passes_all t c.before.loop.invariant.0 (omega arith), rw c.before.loop.invariant.1 p)
+    let (t, p) = (start c.before.before).requires in
+    (passes_all t c.loop-lots.invariant.0 (omega arith), rw c.loop-lots.invariant.1 p)
 
-pub try-pair-spec : {M : Type 1} → statement M
-try-pair-spec =
+pub try_pair_spec : {M : Type 1} → statement M
+try_pair_spec =
     tie.close
     (tie.spec
     invariant-loop
     decreases-loop
-    (λ c κs. can_ask c.before.requires.0 c.if1.true)
+    (λ c κs. can_ask c.requires.0 c.if-ranked.true)
     returns
     (λ c. omega (arith, few c.before))
-    (λ c. omega (arith, few c.before))
-    (λ c κs. omega (arith, few c.before.before))
+    (λ c. omega (arith, few c.before.before))
+    (λ c κs. omega (arith, few c.before.before.before))
     returns-2
-    (λ c. omega (arith, few c.before.before.before.before))
-    (λ c. omega (arith, few c.before.before.before.before))
-    (λ c. omega (arith, few c.before.before.before.before))
     (λ c. omega (arith, few c.before.before.before.before.before))
+    (λ c. omega (arith, few c.before.before.before.before.before))
+    (λ c. omega (arith, few c.before.before.before.before.before.before))
+    (λ c. omega (arith, few c.before.before.before.before.before.before.before.before))
     (λ c κs. search rules)
-    (λ c κs. omega (arith, c.wide.ensures, rank_few c.before.before.before.before.before.before.before.requires.0))
-    (λ c. omega (arith, few c.before.before.before.before.before.before.before.before))
-    (λ c. omega (arith, few c.before.before.before.before.before.before.before.before))
-    (λ c. omega (arith, few c.before.before.before.before.before.before.before.before))
+    (λ c κs. omega (arith, c.wide.ensures, rank_few c.requires.0))
+    (λ c. omega (arith, few c.before.before.before.before.before.before.before.before.before.before.before))
+    (λ c. omega (arith, few c.before.before.before.before.before.before.before.before.before.before.before))
+    (λ c. omega (arith, few c.before.before.before.before.before.before.before.before.before.before.before.before))
     (λ c κs. search rules)
     (λ c κs. search rules)
     (λ c κs. search rules)
@@ -119,15 +119,15 @@ try-pair-spec =
     (λ c. search rules)
     (λ c κs. search rules)
     (λ c. omega (arith, few (s c)))
-    (λ c. omega (arith, few (s c)))
-    (λ c. omega (arith, asked-few c.before))
-    (λ c. omega (arith, asked-few c.before))
+    (λ c. omega (arith, few (s c.before)))
+    (λ c. omega (arith, asked-few c.before.before))
+    (λ c. omega (arith, asked-few c.before.before.before))
     (λ c κs. search rules)
     misfits-requires
     (λ c. search rules)
-    (λ c. omega (arith, few (s c.before.before.before.before)))
-    (λ c. omega (arith, few (s c.before.before.before.before)))
-    (λ c. omega (arith, few (s c.before.before.before.before)))
+    (λ c. omega (arith, few (s c.before.before.before.before.before.before)))
+    (λ c. omega (arith, few (s c.before.before.before.before.before.before)))
+    (λ c. omega (arith, few (s c.before.before.before.before.before.before.before)))
     returns-3
     (λ c κs. search rules)
     loop-less

@@ -9,26 +9,26 @@ use Rattle.walk.proofs.enter.Statement.{statement}
 use Rattle.walk.proofs.enter.Tie as tie
 
 -- the pair's own cost
-module _ (c : tie.After-start-of) where
+module _ (c : tie.After-start_of-start) where
   abbrev start : tie.Start
   start = c.before.before.before
 
-  own_is : c.before.cost-of.result ≡ raised_at start.args.book.now (entry start.args.offsets.now start.args.i.0 start.args.j.0)
-  own_is = c.before.cost-of.ensures
+  own_is : c.cost_of-own.result ≡ raised_at start.args.book.now (entry start.args.offsets.now start.args.i.0 start.args.j.0)
+  own_is = c.cost_of-own.ensures
 
-  own_cheap : c.before.cost-of.result ≤ cost_top
+  own_cheap : c.cost_of-own.result ≤ cost_top
   own_cheap = omega (
     arith,
     own_is,
-    start.pre.tabled.cheap (32 * start.args.i.0 + start.args.j.0)
-        (omega (arith, start.pre.lot_in, start.pre.call_in, start.pre.few_calls)) start.pre.in_table,
+    start.requires.tabled.cheap (32 * start.args.i.0 + start.args.j.0)
+        (omega (arith, start.requires.lot_in, start.requires.call_in, start.requires.few_calls)) start.requires.in_table,
   )
 
-lower-row-requires : tie.Need-lower-row-requires
+lower-row-requires : tie.Need-lower_row-requires
 lower-row-requires c κs =
     let t = c.before.before in
     let pre = (start t).requires in
-    let at = t.start_of_lem.ensures.from c.before.if1.true in
+    let at = t.start_of-start.ensures.from c.if-start-gt0.true in
     record {
       within = λ l h. rw (← at l h) (pre.tabled.within (32 * (start t).args.i.0 + l) (omega (arith, pre.lot_in, pre.few_calls)));
       cheap = λ l h. rw (← at l h) (pre.tabled.cheap (32 * (start t).args.i.0 + l) (omega (arith, pre.lot_in, pre.few_calls))
@@ -40,24 +40,24 @@ lower-row-requires c κs =
       capped = pre.capped;
     }
 
-returns : tie.Need-returns
+returns : tie.Need-returns-then-start-gt0
 returns c =
     let t = c.before.before.before in
     let a = (start t).args in
-    let done = c.lower-row.ensures in
+    let done = c.lower_row.ensures in
     let in_row : (l : ℕ) → l < a.m → l < 32 = λ l h. omega (arith, (start t).requires.few_calls) in
-    let gap_is : (l : ℕ) → l < a.m → gap_over a.book.now t.before.cost-of.result (t.start_of_lem.result + 4 * l)
+    let gap_is : (l : ℕ) → l < a.m → gap_over a.book.now t.cost_of-own.result (t.start_of-start.result + 4 * l)
     ≡ table_gap a.book.now a.offsets.now a.i.0 a.j.0 l =
-    λ l h. ap₂ (gap_over a.book.now) (own_is t) (sym (t.start_of_lem.ensures.from c.before.before.if1.true l h)) in
+    λ l h. ap₂ (gap_over a.book.now) (own_is t) (sym (t.start_of-start.ensures.from c.if-start-gt0.true l h)) in
     record {
       capped = done.capped;
       lowers = λ l h word-has. rw (← gap_is l h) (done.lowers l (in_row l h) ∙ rw (lt-ltb l a.m h));
       others = λ b l hb hl ne. done.others b l (in_row b hb) (in_row l hl) ne;
-      says = λ l h. bit_and_lem a.word c.lower-row.result l
+      says = λ l h. bit_and_lem a.word c.lower_row.result l
           ∙ ap (λ (t : Bool). bit a.word l && t) (done.says l (in_row l h) ∙ rw (lt-ltb l a.m h, gap_is l h));
     }
 
-lower-set-requires : tie.Need-lower-set-requires
+lower-set-requires : tie.Need-lower_set-requires
 lower-set-requires c κs =
     let t = c.before.before in
     let pre = (start t).requires in
@@ -71,13 +71,13 @@ lower-set-requires c κs =
       capped = pre.capped;
     }
 
-returns-2 : tie.Need-returns-2
+returns-2 : tie.Need-returns
 returns-2 c =
     let t = c.before.before.before in
     let a = (start t).args in
-    let done = c.lower-set.ensures in
+    let done = c.lower_set.ensures in
     let in_row : (l : ℕ) → l < a.m → l < 32 = λ l h. omega (arith, (start t).requires.few_calls) in
-    let gap_is : (l : ℕ) → gap_over a.book.now t.before.cost-of.result (entry a.offsets.now a.i.0 l)
+    let gap_is : (l : ℕ) → gap_over a.book.now t.cost_of-own.result (entry a.offsets.now a.i.0 l)
     ≡ table_gap a.book.now a.offsets.now a.i.0 a.j.0 l =
     λ l. ap (λ (own : ℕ). gap_over a.book.now own (entry a.offsets.now a.i.0 l)) (own_is t) in
     record {

@@ -6,5 +6,5 @@ use Rattle.words.proofs.either.Tie as tie
 returns : tie.Need-returns
 returns c = record { each = bit_or_lem c.args.a c.args.b }
 
-pub either-spec : {M : Type 1} → statement M
-either-spec = tie.close (tie.spec returns)
+pub either_spec : {M : Type 1} → statement M
+either_spec = tie.close (tie.spec returns)

@@ -8,5 +8,5 @@ use Rattle.words.proofs.including.Tie as tie
 returns : tie.Need-returns
 returns c = rw (one_shifted c.args.j c.requires) (including_is c.args.word c.args.j)
 
-pub including-spec : {M : Type 1} → statement M
-including-spec = tie.close (tie.spec (λ c. search rules) (λ c. search rules) returns)
+pub including_spec : {M : Type 1} → statement M
+including_spec = tie.close (tie.spec (λ c. search rules) (λ c. search rules) returns)

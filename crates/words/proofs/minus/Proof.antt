@@ -6,5 +6,5 @@ use Rattle.words.proofs.minus.Tie as tie
 returns : tie.Need-returns
 returns c = minus_is c.args.word c.args.other c.ranges.word.fits
 
-pub minus-spec : {M : Type 1} → statement M
-minus-spec = tie.close (tie.spec returns)
+pub minus_spec : {M : Type 1} → statement M
+minus_spec = tie.close (tie.spec returns)

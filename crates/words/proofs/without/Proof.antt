@@ -8,5 +8,5 @@ use Rattle.words.proofs.without.Tie as tie
 returns : tie.Need-returns
 returns c = rw (one_shifted c.args.j c.requires) (without_is c.args.word c.args.j)
 
-pub without-spec : {M : Type 1} → statement M
-without-spec = tie.close (tie.spec (λ c. search rules) (λ c. search rules) returns)
+pub without_spec : {M : Type 1} → statement M
+without_spec = tie.close (tie.spec (λ c. search rules) (λ c. search rules) returns)

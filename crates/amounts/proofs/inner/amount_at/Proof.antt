@@ -6,14 +6,14 @@ use Rattle.specification.proofs.Numbers.{u32_past}
 use Rattle.amounts.proofs.inner.amount_at.Statement.{statement}
 use Rattle.amounts.proofs.inner.amount_at.Tie as tie
 
-returns : tie.Need-returns
-returns c = sym (u32_past c.before.before.args.amounts.now _ (omega arith))
+returns : tie.Need-returns-then-amounts-lt7
+returns c = sym (u32_past c.args.amounts.now _ (omega arith))
 
-returns-2 : tie.Need-returns-2
-returns-2 c = sym (u32_past c.before.before.before.args.amounts.now _ (omega arith))
+returns-2 : tie.Need-returns-then-amounts-k
+returns-2 c = sym (u32_past c.args.amounts.now _ (omega arith))
 
-pub amount-at-spec : {M : Type 1} → statement M
-amount-at-spec =
+pub amount_at_spec : {M : Type 1} → statement M
+amount_at_spec =
     tie.close
     (tie.spec
     returns

@@ -6,7 +6,7 @@ use Rattle.amounts.proofs.inner.has_reserves.Statement.{statement}
 use Rattle.amounts.proofs.inner.has_reserves.Tie as tie
 
 returns : tie.Need-returns
-returns c = ap (λ version. eqb version 2) c.u16-at.ensures
+returns c = ap (λ version. eqb version 2) c.u16_at.ensures
 
-pub has-reserves-spec : {M : Type 1} → statement M
-has-reserves-spec = tie.close (tie.spec (λ c κs. search rules) returns)
+pub has_reserves_spec : {M : Type 1} → statement M
+has_reserves_spec = tie.close (tie.spec (λ c κs. search rules) returns)

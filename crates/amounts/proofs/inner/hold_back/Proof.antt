@@ -14,20 +14,20 @@ use Rattle.amounts.proofs.Reserves.{reserve_is}
 use Rattle.amounts.proofs.inner.hold_back.Statement.{statement}
 use Rattle.amounts.proofs.inner.hold_back.Tie as tie
 
-abbrev invariant-loop : tie.invariant-loop
+abbrev invariant-loop : tie.invariant-loop-i
 invariant-loop amounts count out₀ first i₀ out i =
     (i ≤ count) × (length out ≡ length out₀) × ((k : ℕ) → k < i → get_or out k 0 ≡ lot_amount amounts k)
     × ((k : ℕ) → i ≤ k → k < count → get_or out k 0 ≡ amount_at amounts k)
 
-abbrev decreases-loop : tie.decreases-loop
+abbrev decreases-loop : tie.decreases-loop-i
 decreases-loop amounts count out₀ first i₀ out i = count - i
 
-loop-holds : tie.Need-loop-init invariant-loop decreases-loop
-loop-holds c = (omega arith, refl, below_none _, λ k _ h. (c.before.before.before.requires.3 k h).0)
+loop-holds : tie.Need-loop-i-init invariant-loop decreases-loop
+loop-holds c = (omega arith, refl, below_none _, λ k _ h. (c.requires.3 k h).0)
 
 -- at each turn the entry is what the lot holds, and the number read is its reserve
-module _ (c : tie.After-amount-at invariant-loop decreases-loop) where
-  abbrev at-loop : tie.At-loop invariant-loop decreases-loop
+module _ (c : tie.After-amount_at invariant-loop decreases-loop) where
+  abbrev at-loop : tie.At-loop-i invariant-loop decreases-loop
   at-loop = c.before.before.before
 
   abbrev start : tie.Start invariant-loop decreases-loop
@@ -37,31 +37,31 @@ module _ (c : tie.After-amount-at invariant-loop decreases-loop) where
   amounts = start.args.amounts.now
 
   abbrev lot : ℕ
-  lot = at-loop.loop.i
+  lot = at-loop.loop-i.i
 
-  held : get_or at-loop.loop.out lot 0 ≡ amount_at amounts lot
-  held = at-loop.loop.inv.3 lot (omega arith) (omega arith)
+  held : get_or at-loop.loop-i.out lot 0 ≡ amount_at amounts lot
+  held = at-loop.loop-i.invariant.3 lot (omega arith) (omega arith)
 
-  reserve-read : c.amount-at.result ≡ reserve_at amounts lot
-  reserve-read = c.amount-at.ensures ∙ sym (reserve_is amounts start.pre.2 _ _ at-loop.before.first-reserve.ensures.0)
+  reserve-read : c.amount_at.result ≡ reserve_at amounts lot
+  reserve-read = c.amount_at.ensures ∙ sym (reserve_is amounts start.requires.2 _ _ at-loop.first_reserve-first.ensures.0)
 
-sub_out : tie.Need-overflow-sub-out invariant-loop decreases-loop
+sub_out : tie.Need-overflow_sub-out invariant-loop decreases-loop
 sub_out c = omega (arith, held c, reserve-read c, ((start c).requires.3 (lot c) (omega arith)).1)
 
-loop-again : tie.Need-loop-preserved invariant-loop decreases-loop
+loop-again : tie.Need-loop-i-preserved invariant-loop decreases-loop
 loop-again c =
-    let l = (at-loop c).loop in (
+    let l = (at-loop c).loop-i in (
       omega arith,
-      simp length-set l.inv.1,
-      shows_more l.out (lot_amount (amounts c)) l.i _ (omega arith) l.inv.2 (omega (arith, held c, reserve-read c)),
-      λ k from h. get_or-set_other l.out l.i k _ 0 (λ (q : k ≡ l.i). omega arith) ∙ l.inv.3 k (omega arith) h,
+      simp length-set l.invariant.1,
+      shows_more l.out (lot_amount (amounts c)) l.i _ (omega arith) l.invariant.2 (omega (arith, held c, reserve-read c)),
+      λ k from h. get_or-set_other l.out l.i k _ 0 (λ (q : k ≡ l.i). omega arith) ∙ l.invariant.3 k (omega arith) h,
     )
 
 returns : tie.Need-returns invariant-loop decreases-loop
-returns c = λ i h. c.before.loop.invariant.2 i (omega arith)
+returns c = λ i h. c.loop-i.invariant.2 i (omega arith)
 
-pub hold-back-spec : {M : Type 1} → statement M
-hold-back-spec =
+pub hold_back_spec : {M : Type 1} → statement M
+hold_back_spec =
     tie.close
     (tie.spec
     invariant-loop

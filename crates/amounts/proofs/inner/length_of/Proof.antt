@@ -4,14 +4,14 @@ use native.Mathlib.Omega.{arith}
 use Rattle.amounts.proofs.inner.length_of.Statement.{statement}
 use Rattle.amounts.proofs.inner.length_of.Tie as tie
 
-returns : tie.Need-returns
-returns c = rw c.if1.true (omega arith)
+returns : tie.Need-returns-then-reserved
+returns c = rw c.if-reserved.true (omega arith)
 
-returns-2 : tie.Need-returns-2
-returns-2 c = rw c.if1.false (omega arith)
+returns-2 : tie.Need-returns
+returns-2 c = rw c.if-reserved.false (omega arith)
 
-pub length-of-spec : {M : Type 1} → statement M
-length-of-spec =
+pub length_of_spec : {M : Type 1} → statement M
+length_of_spec =
     tie.close
     (tie.spec
     (λ c. search rules) (λ c. search rules) (λ c. search rules) (λ c. search rules)

@@ -21,48 +21,48 @@ use Rattle.amounts.proofs.Reserves.{within_without}
 use Rattle.amounts.proofs.inner.read_of.Statement.{statement}
 use Rattle.amounts.proofs.inner.read_of.Tie as tie
 
-module _ (c : tie.After-enum-told) where
+module _ (c : tie.In_default) where
   abbrev start : tie.Start
-  start = c.before.before.before.before.before
+  start = c.before.before.before.before
 
   abbrev bytes : List ℕ
   bytes = start.args.amounts.now
 
   opens : read_opening amounts_mark 2 bytes ≡ gives tt
-  opens = sym c.before.before.read-opening.ensures ∙ ap stated_step c.enum_told.given.1
+  opens = sym c.read_opening-opening.ensures ∙ ap stated_step c.in_default.is
 
-module _ (c : tie.Else1) where
-  abbrev opened : tie.After-enum-told
+module _ (c : tie.Else-u8_at-lots) where
+  abbrev opened : tie.In_default
   opened = c.before.before
 
   lots-same : eqb (byte_at (bytes opened) 5) (start opened).args.lots ≡ true
-  lots-same = eq-eqb _ _ (sym c.before.u8-at.ensures ∙ c.if1.false)
+  lots-same = eq-eqb _ _ (sym c.u8_at.ensures ∙ c.if-u8_at-lots.false)
 
 -- the amounts' counts are the book's
-module _ (c : tie.Else2) where
-  abbrev one : tie.Else1
+module _ (c : tie.Else-u8_at-calls) where
+  abbrev one : tie.Else-u8_at-lots
   one = c.before.before
 
   calls_same : eqb (byte_at (bytes (opened one)) 6) (start (opened one)).args.calls ≡ true
-  calls_same = eq-eqb _ _ (sym c.before.u8-at2.ensures ∙ c.if2.false)
+  calls_same = eq-eqb _ _ (sym c.u8_at-2.ensures ∙ c.if-u8_at-calls.false)
 
-returns : tie.Need-returns
+returns : tie.Need-returns-in-Refused
 unfolding read_amounts_of
-returns c = simp (sym c.before.before.before.read-opening.ensures ∙ ap stated_step c.before.opening.given.1)
+returns c = simp (sym c.read_opening-opening.ensures ∙ ap stated_step c.in-Refused.is)
 
-returns-2 : tie.Need-returns-2
+returns-2 : tie.Need-returns-then-u8_at-lots
 unfolding read_amounts_of
-returns-2 c = simp (opens c.before.before, ne_eqb _ _ (λ q. c.if1.true (c.before.u8-at.ensures ∙ q)))
+returns-2 c = simp (opens c.before.before, ne_eqb _ _ (λ q. c.if-u8_at-lots.true (c.u8_at.ensures ∙ q)))
 
-returns-3 : tie.Need-returns-3
+returns-3 : tie.Need-returns-then-u8_at-calls
 unfolding read_amounts_of
 returns-3 c =
     let e = c.before.before in
-    simp (opens (opened e), lots-same e, ne_eqb _ _ (λ q. c.if2.true (c.before.u8-at2.ensures ∙ q)))
+    simp (opens (opened e), lots-same e, ne_eqb _ _ (λ q. c.if-u8_at-calls.true (c.u8_at-2.ensures ∙ q)))
 
 -- the length that the version asks for
-module _ (c : tie.After-length-of) where
-  abbrev counted : tie.Else2
+module _ (c : tie.After-length_of-size) where
+  abbrev counted : tie.Else-u8_at-calls
   counted = c.before.before
 
   abbrev size : Size
@@ -71,17 +71,17 @@ module _ (c : tie.After-length-of) where
   abbrev file : List ℕ
   file = bytes (opened (one counted))
 
-  length_is : c.length-of.result ≡ amounts_length size file
-  length_is = c.length-of.ensures
-      ∙ ap (λ reserved. 7 + 4 * (size.lots + size.calls + cond reserved size.lots 0)) c.before.has-reserves.ensures
+  length_is : c.length_of-size.result ≡ amounts_length size file
+  length_is = c.length_of-size.ensures
+      ∙ ap (λ reserved. 7 + 4 * (size.lots + size.calls + cond reserved size.lots 0)) c.has_reserves-reserved.ensures
 
-returns-4 : tie.Need-returns-4
+returns-4 : tie.Need-returns-then-amounts-size
 unfolding read_amounts_of
 returns-4 c =
     let f = counted c.before in
-    simp (opens (opened (one f)), lots-same (one f), calls_same f, ← length_is c.before, lt-ltb _ _ c.if3.true)
+    simp (opens (opened (one f)), lots-same (one f), calls_same f, ← length_is c.before, lt-ltb _ _ c.if-amounts-size.true)
 
-returns-5 : tie.Need-returns-5
+returns-5 : tie.Need-returns-then-size-amounts
 unfolding read_amounts_of
 returns-5 c =
     let f = counted c.before.before in
@@ -90,13 +90,13 @@ returns-5 c =
       lots-same (one f),
       calls_same f,
       ← length_is c.before.before,
-      le-ltb _ _ c.before.if3.false,
-      lt-ltb _ _ c.if4.true,
+      le-ltb _ _ c.if-amounts-size.false,
+      lt-ltb _ _ c.if-size-amounts.true,
     )
 
 -- the length is right: 16 and 21 are left
-module _ (c : tie.After-all-within) where
-  abbrev sized : tie.After-length-of
+module _ (c : tie.After-all_within) where
+  abbrev sized : tie.After-length_of-size
   sized = c.before.before.before
 
   all-within : Bool
@@ -113,52 +113,52 @@ module _ (c : tie.After-all-within) where
     lots-same (one (counted sized)),
     calls_same (counted sized),
     ← length_is sized,
-    le-ltb _ _ c.before.before.if3.false,
-    le-ltb _ _ c.before.if4.false,
+    le-ltb _ _ c.if-amounts-size.false,
+    le-ltb _ _ c.if-size-amounts.false,
   )
 
   -- the test of the amounts is that of 32-bit numbers to which nothing is added
-  within-is : {b : Bool} → c.all-within.result ≡ b → all-within ≡ b
+  within-is : {b : Bool} → c.all_within.result ≡ b → all-within ≡ b
   unfolding all-within
   within-is e =
       let s : List ℕ = file sized in
-      let fits = u32_below s (λ i. omega (arith, (opened (one (counted sized))).before.before.before.before.shared-slice-known.given i)) in
+      let fits = u32_below s (λ i. omega (arith, (opened (one (counted sized))).shared_slice_known-1.given i)) in
       let same : (k : ℕ) → amount_at s k ≡ lifted_cost 0 (amount_at s k) = λ k. let below = fits (7 + 4 * k) in omega arith in
-      ap (every _) (fun_ext (λ k. ap (λ n. leb n amount_limit) (same k))) ∙ sym c.all-within.ensures ∙ e
+      ap (every _) (fun_ext (λ k. ap (λ n. leb n amount_limit) (same k))) ∙ sym c.all_within.ensures ∙ e
 
-returns-6 : tie.Need-returns-6
-returns-6 c = sym (past-8 c.before ∙ rw (within-is c.before (not-true _ c.if5.true)) refl)
+returns-6 : tie.Need-returns-then-not-all_within
+returns-6 c = sym (past-8 c.before ∙ rw (within-is c.before (not-true _ c.if-not-all_within.true)) refl)
 
 -- no amount is above the limit: 21 is left
-module _ (c : tie.Else5) where
+module _ (c : tie.Else-not-all_within) where
   past-16 : read_amounts_of (size (sized c.before)) (file (sized c.before))
       ≡ (refuse_if (not (all-reserved c.before)) 21 [] >>= λ _. gives (size (sized c.before)))
-  past-16 = past-8 c.before ∙ rw (within-is c.before (not-false _ c.if5.false)) refl
+  past-16 = past-8 c.before ∙ rw (within-is c.before (not-false _ c.if-not-all_within.false)) refl
 
-  carried : carries_reserves (file (sized c.before)) ≡ (sized c.before).before.has-reserves.result
-  carried = sym (sized c.before).before.has-reserves.ensures
+  carried : carries_reserves (file (sized c.before)) ≡ (sized c.before).has_reserves-reserved.result
+  carried = sym (sized c.before).has_reserves-reserved.ensures
 
-within-lots-requires : tie.Need-within-lots-requires
-within-lots-requires c κs = ((start (opened (one (counted (sized c.before.before))))).pre.0, carried c.before ∙ c.if6.true)
+within-lots-requires : tie.Need-within_lots-requires
+within-lots-requires c κs = ((start (opened (one (counted (sized c.before.before))))).requires.0, carried c.before ∙ c.if-reserved.true)
 
-returns-7 : tie.Need-returns-7
+returns-7 : tie.Need-returns-then-not-within_lots
 unfolding all-reserved
 returns-7 c =
     let e = c.before.before.before in
-    sym (past-16 e ∙ rw (sym c.before.within-lots.ensures ∙ not-true _ c.if7.true) refl)
+    sym (past-16 e ∙ rw (sym c.within_lots.ensures ∙ not-true _ c.if-not-within_lots.true) refl)
 
-returns-8 : tie.Need-returns-8
+returns-8 : tie.Need-returns
 unfolding all-reserved
 returns-8 c =
     let e = c.before in
     let kept : all-reserved e.before ≡ true = ⊎_elim
     (λ (if6, within, if7). sym within.ensures ∙ not-false _ if7.left)
     (λ if6. T_true _ (every_of _ _ (λ i h. le→leb _ _ (within_without _ (carried e ∙ if6.left) i))))
-    c.if6.branch in
+    c.else-reserved.branch-raw in
     sym (past-16 e ∙ rw kept refl)
 
-pub read-of-spec : {M : Type 1} → statement M
-read-of-spec =
+pub read_of_spec : {M : Type 1} → statement M
+read_of_spec =
     tie.close
     (tie.spec
     (λ c κs. search rules) (λ c. search rules)

@@ -14,46 +14,46 @@ use Rattle.amounts.proofs.Reserves.{reserve_is}
 use Rattle.amounts.proofs.inner.within_lots.Statement.{statement}
 use Rattle.amounts.proofs.inner.within_lots.Tie as tie
 
-abbrev invariant-loop : tie.invariant-loop
+abbrev invariant-loop : tie.invariant-loop-i
 invariant-loop amounts lots first i₀ i = (i ≤ lots) × (every i (λ k. leb (reserve_at amounts k) (amount_at amounts k)) ≡ true)
 
-abbrev decreases-loop : tie.decreases-loop
+abbrev decreases-loop : tie.decreases-loop-i
 decreases-loop amounts lots first i₀ i = lots - i
 
-loop-holds : tie.Need-loop-init invariant-loop decreases-loop
+loop-holds : tie.Need-loop-i-init invariant-loop decreases-loop
 unfolding every
 loop-holds c = (omega arith, refl)
 
 -- at each turn the numbers compared are what the lot holds and its reserve
-module _ (c : tie.After-amount-at2 invariant-loop decreases-loop) where
-  abbrev at-loop : tie.At-loop invariant-loop decreases-loop
+module _ (c : tie.After-amount_at-in-loop-i invariant-loop decreases-loop) where
+  abbrev at-loop : tie.At-loop-i invariant-loop decreases-loop
   at-loop = c.before.before.before
 
   abbrev amounts : List ℕ
-  amounts = at-loop.before.before.before.args.amounts.now
+  amounts = at-loop.args.amounts.now
 
-  reserve-read : c.amount-at2.result ≡ reserve_at amounts at-loop.loop.i
+  reserve-read : c.amount_at-in-loop-i.result ≡ reserve_at amounts at-loop.loop-i.i
   reserve-read =
       let first = at-loop.before in
-      c.amount-at2.ensures ∙ sym (reserve_is amounts first.before.before.pre.1 _ _ first.first-reserve.ensures.0)
+      c.amount_at-in-loop-i.ensures ∙ sym (reserve_is amounts first.requires.1 _ _ first.first_reserve-first.ensures.0)
 
-  compared : {b : Bool} → leb c.amount-at2.result c.before.amount-at.result ≡ b
-      → leb (reserve_at amounts at-loop.loop.i) (amount_at amounts at-loop.loop.i) ≡ b
-  compared e = rw (← reserve-read, ← c.before.amount-at.ensures) e
+  compared : {b : Bool} → leb c.amount_at-in-loop-i.result c.amount_at.result ≡ b
+      → leb (reserve_at amounts at-loop.loop-i.i) (amount_at amounts at-loop.loop-i.i) ≡ b
+  compared e = rw (← reserve-read, ← c.amount_at.ensures) e
 
-returns : tie.Need-returns invariant-loop decreases-loop
-returns c = sym (every_false _ _ _ c.before.before.before.loop-test.true (compared c.before (lt-leb _ _ c.if1.true)))
+returns : tie.Need-returns-then-amount_at invariant-loop decreases-loop
+returns c = sym (every_false _ _ _ c.loop-i-test.true (compared c.before (lt-leb _ _ c.if-amount_at.true)))
 
-loop-again : tie.Need-loop-preserved invariant-loop decreases-loop
-loop-again c = (omega arith, every_again _ _ (at-loop c.before).loop.inv.1 (compared c.before (le-leb _ _ c.if1.false)))
+loop-again : tie.Need-loop-i-preserved invariant-loop decreases-loop
+loop-again c = (omega arith, every_again _ _ (at-loop c.before).loop-i.invariant.1 (compared c.before (le-leb _ _ c.if-amount_at.false)))
 
-returns-2 : tie.Need-returns-2 invariant-loop decreases-loop
+returns-2 : tie.Need-returns invariant-loop decreases-loop
 returns-2 c =
-    let e : c.before.loop.i ≡ c.before.before.before.before.args.lots = omega arith in
-    sym (rw e at c.before.loop.invariant.1)
+    let e : c.loop-i.i ≡ c.args.lots = omega arith in
+    sym (rw e at c.loop-i.invariant.1)
 
-pub within-lots-spec : {M : Type 1} → statement M
-within-lots-spec =
+pub within_lots_spec : {M : Type 1} → statement M
+within_lots_spec =
     tie.close
     (tie.spec
     invariant-loop

@@ -15,14 +15,14 @@ shifted m h = shl_exact 1 m 64 (lit< tt) (omega arith) ∙ one-mul (2 ^ m)
 power : (m : ℕ) → m ≤ 32 → 2 ^ m ≤ 4294967296
 power m h = pow_mono h
 
-sub-result : tie.Need-overflow-sub-result
+sub-result : tie.Need-overflow_sub-result
 sub-result c = omega (arith, shifted c.args.m c.requires, pow_pos c.args.m)
 
-cast-result : tie.Need-overflow-cast-result
+cast-result : tie.Need-overflow_cast-result
 cast-result c = omega (arith, shifted c.args.m c.requires, power c.args.m c.requires)
 
 returns : tie.Need-returns
 returns c = rw (shifted c.args.m c.requires)
 
-pub all-calls-spec : {M : Type 1} → statement M
-all-calls-spec = tie.close (tie.spec (λ c. search rules) sub-result cast-result returns)
+pub all_calls_spec : {M : Type 1} → statement M
+all_calls_spec = tie.close (tie.spec (λ c. search rules) sub-result cast-result returns)

@@ -6,7 +6,7 @@ use Rattle.book.proofs.inner.base_of.Statement.{statement}
 use Rattle.book.proofs.inner.base_of.Tie as tie
 
 returns : tie.Need-returns
-returns c = c.cost-base.ensures ∙ ap cost_base c.before.version_of.ensures
+returns c = c.cost_base.ensures ∙ ap cost_base c.version_of.ensures
 
-pub base-of-spec : {M : Type 1} → statement M
-base-of-spec = tie.close (tie.spec (λ c κs. search rules) (λ c κs. search rules) returns)
+pub base_of_spec : {M : Type 1} → statement M
+base_of_spec = tie.close (tie.spec (λ c κs. search rules) (λ c κs. search rules) returns)

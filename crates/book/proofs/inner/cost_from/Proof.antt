@@ -7,7 +7,7 @@ use Rattle.book.proofs.inner.cost_from.Statement.{statement}
 use Rattle.book.proofs.inner.cost_from.Tie as tie
 
 returns : tie.Need-returns
-returns c = c.lifted.ensures ∙ ap (lifted_cost _) (rw rest_is at c.before.cost-in.ensures)
+returns c = c.lifted.ensures ∙ ap (lifted_cost _) (rw rest_is at c.cost_in.ensures)
 
-pub cost-from-spec : {M : Type 1} → statement M
-cost-from-spec = tie.close (tie.spec (λ c. search rules) (λ c. search rules) (λ c. search rules) (λ c κs. search rules) (λ c κs. search rules) returns)
+pub cost_from_spec : {M : Type 1} → statement M
+cost_from_spec = tie.close (tie.spec (λ c. search rules) (λ c. search rules) (λ c. search rules) (λ c κs. search rules) (λ c κs. search rules) returns)

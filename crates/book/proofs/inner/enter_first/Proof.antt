@@ -10,42 +10,42 @@ use Rattle.book.proofs.Entering.{Entered, entered_none, entered_set, entered_all
 use Rattle.book.proofs.inner.enter_first.Statement.{statement}
 use Rattle.book.proofs.inner.enter_first.Tie as tie
 
-abbrev invariant-loop : tie.invariant-loop
+abbrev invariant-loop : tie.invariant-loop-j
 invariant-loop table₀ word at i base costs next₀ j₀ table next j = (j ≤ costs) × (next ≡ at + 4 * j) × Entered table₀ word i at j table next
 
-abbrev decreases-loop : tie.decreases-loop
+abbrev decreases-loop : tie.decreases-loop-j
 decreases-loop table₀ word at i base costs next₀ j₀ table next j = costs - j
 
 -- the row's bits below the count are set
-module _ (c : tie.In-loop invariant-loop decreases-loop) where
+module _ (c : tie.In-loop-j invariant-loop decreases-loop) where
   abbrev start : tie.Start invariant-loop decreases-loop
   start = c.before.before.before
 
-  few : c.before.before.count.result ≤ 32
-  few = rw c.before.before.count.ensures (ones-le 32 _ start.fits.word.fits)
+  few : c.count-costs.result ≤ 32
+  few = rw c.count-costs.ensures (ones-le 32 _ start.ranges.word.fits)
 
-  set_here : bit start.args.word c.before.loop.j ≡ true
-  set_here = bit_first _ start.pre.3 c.before.loop.j (omega (arith, c.loop-test.true, c.before.before.count.ensures))
+  set_here : bit start.args.word c.loop-j.j ≡ true
+  set_here = bit_first _ start.requires.3 c.loop-j.j (omega (arith, c.loop-j-test.true, c.count-costs.ensures))
 
-loop-holds : tie.Need-loop-init invariant-loop decreases-loop
-loop-holds c = (omega arith, omega arith, entered_none _ _ _ _ c.before.requires.0)
+loop-holds : tie.Need-loop-j-init invariant-loop decreases-loop
+loop-holds c = (omega arith, omega arith, entered_none _ _ _ _ c.requires.0)
 
-loop-again : tie.Need-loop-preserved invariant-loop decreases-loop
+loop-again : tie.Need-loop-j-preserved invariant-loop decreases-loop
 loop-again c = (
   omega arith,
   omega arith,
-  entered_set _ _ _ _ _ c.before.loop.invariant.2 (start c).requires.1 (omega (arith, few c)) (set_here c),
+  entered_set _ _ _ _ _ c.loop-j.invariant.2 (start c.before).requires.1 (omega (arith, few c.before)) (set_here c.before),
 )
 
 returns : tie.Need-returns invariant-loop decreases-loop
 returns c =
     let l = c.before in
     let s = l.before.before in
-    let end : ones s.args.word ≤ l.loop.j = omega (arith, c.loop-test.false, l.before.count.ensures) in
-    entered_all _ _ _ _ _ l.loop.invariant.2 (λ k h h'. bit_after _ s.requires.3 k (omega arith))
+    let end : ones s.args.word ≤ l.loop-j.j = omega (arith, c.loop-j-test.false, l.count-costs.ensures) in
+    entered_all _ _ _ _ _ l.loop-j.invariant.2 (λ k h h'. bit_after _ s.requires.3 k (omega arith))
 
-pub enter-first-spec : {M : Type 1} → statement M
-enter-first-spec =
+pub enter_first_spec : {M : Type 1} → statement M
+enter_first_spec =
     tie.close
     (tie.spec
     invariant-loop
@@ -56,8 +56,8 @@ enter-first-spec =
     loop-holds
     (λ c. omega (arith, few c))
     (λ c. omega (arith, few c))
-    (λ c. omega (arith, few c))
-    (λ c. omega (arith, few c))
+    (λ c. omega (arith, few c.before))
+    (λ c. omega (arith, few c.before))
     (λ c. omega arith) (λ c. omega arith)
     loop-again
     returns)

@@ -7,16 +7,16 @@ use lib.Count.{ones}
 use Rattle.book.proofs.inner.enter_row.Statement.{statement}
 use Rattle.book.proofs.inner.enter_row.Tie as tie
 
-enter-first-requires : tie.Need-enter-first-requires
+enter-first-requires : tie.Need-enter_first-requires
 enter-first-requires c κs =
     let r = c.before.before in
-    let pre = r.before.before.requires in
-    let word = r.before.before.args.word in
-    let lowest = rw r.before.count.ensures at (sym r.reaches.ensures ∙ c.before.if1.false) in
+    let pre = r.requires in
+    let word = r.args.word in
+    let lowest = rw r.count.ensures at (sym r.reaches.ensures ∙ c.if-reaches.false) in
     (pre.0, pre.1, pre.2, leb-false (2 ^ ones word) word lowest)
 
-pub enter-row-spec : {M : Type 1} → statement M
-enter-row-spec =
+pub enter_row_spec : {M : Type 1} → statement M
+enter_row_spec =
     tie.close
     (tie.spec
     (λ c κs. search rules) (λ c κs. search rules) (λ c κs. search rules)

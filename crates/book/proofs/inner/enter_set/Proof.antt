@@ -11,33 +11,33 @@ use Rattle.book.proofs.Entering.{Entered, entered_none, entered_set, entered_to,
 use Rattle.book.proofs.inner.enter_set.Statement.{statement}
 use Rattle.book.proofs.inner.enter_set.Tie as tie
 
-abbrev invariant-loop : tie.invariant-loop
+abbrev invariant-loop : tie.invariant-loop-j
 invariant-loop table₀ word at i base next₀ j₀ table next j = (j < 32 → bit word j ≡ true) × Entered table₀ word i at j table next
 
-abbrev decreases-loop : tie.decreases-loop
+abbrev decreases-loop : tie.decreases-loop-j
 decreases-loop table₀ word at i base next₀ j₀ table next j = 32 - j
 
-loop-holds : tie.Need-loop-init invariant-loop decreases-loop
+loop-holds : tie.Need-loop-j-init invariant-loop decreases-loop
 loop-holds c =
-    let first = c.set-from.ensures in
-    (first.is_set, entered_to _ _ _ _ _ (entered_none _ _ _ _ c.before.requires.0) (omega arith) first)
+    let first = c.set_from-j.ensures in
+    (first.is_set, entered_to _ _ _ _ _ (entered_none _ _ _ _ c.requires.0) (omega arith) first)
 
-few : (c : tie.In-loop invariant-loop decreases-loop) → ones_below c.before.before.before.args.word c.before.loop.j ≤ 32
-few c = ones_below_le _ _ c.before.before.before.ranges.word.fits
+few : (c : tie.In-loop-j invariant-loop decreases-loop) → ones_below c.args.word c.loop-j.j ≤ 32
+few c = ones_below_le _ _ c.ranges.word.fits
 
-loop-again : tie.Need-loop-preserved invariant-loop decreases-loop
+loop-again : tie.Need-loop-j-preserved invariant-loop decreases-loop
 loop-again c =
     let t = c.before in
-    let inv = t.before.loop.invariant in
-    let after = c.set-from2.ensures in
-    let here = entered_set _ _ _ _ _ inv.1 t.before.before.before.requires.1 t.loop-test.true (inv.0 t.loop-test.true) in
+    let inv = t.loop-j.invariant in
+    let after = c.set_from-j-in-loop-j.ensures in
+    let here = entered_set _ _ _ _ _ inv.1 t.requires.1 t.loop-j-test.true (inv.0 t.loop-j-test.true) in
     (after.is_set, entered_to _ _ _ _ _ here (omega arith) after)
 
 returns : tie.Need-returns invariant-loop decreases-loop
-returns c = entered_all _ _ _ _ _ c.before.loop.invariant.1 (λ k h h'. absurd (omega arith))
+returns c = entered_all _ _ _ _ _ c.loop-j.invariant.1 (λ k h h'. absurd (omega arith))
 
-pub enter-set-spec : {M : Type 1} → statement M
-enter-set-spec =
+pub enter_set_spec : {M : Type 1} → statement M
+enter_set_spec =
     tie.close
     (tie.spec
     invariant-loop
@@ -46,9 +46,9 @@ enter-set-spec =
     (λ c κs. tt)
     loop-holds
     (λ c. omega arith) (λ c. omega arith) (λ c. omega arith)
-    (λ c. omega (arith, few c))
+    (λ c. omega (arith, few c.before))
     (λ c. omega arith)
     (λ c κs. tt)
-    (λ c. omega (arith, c.set-from2.ensures.not_below (omega arith)))
+    (λ c. omega (arith, c.set_from-j-in-loop-j.ensures.not_below (omega arith)))
     loop-again
     returns)

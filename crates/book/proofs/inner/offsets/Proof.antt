@@ -14,15 +14,15 @@ use Rattle.book.proofs.Rows.{part_is_row}
 use Rattle.book.proofs.inner.offsets.Statement.{statement}
 use Rattle.book.proofs.inner.offsets.Tie as tie
 
-abbrev invariant-loop : tie.invariant-loop
+abbrev invariant-loop : tie.invariant-loop-i
 invariant-loop book lots table₀ at₀ i₀ table at i = (i ≤ lots) × (at ≡ row_start book i) × Filled book i table
 
-abbrev decreases-loop : tie.decreases-loop
+abbrev decreases-loop : tie.decreases-loop-i
 decreases-loop book lots table₀ at₀ i₀ table at i = lots - i
 
 -- the row of the lot that the loop is at stands in the book, which is short
-module _ (c : tie.In-loop invariant-loop decreases-loop) where
-  abbrev loop : tie.At-loop invariant-loop decreases-loop
+module _ (c : tie.In-loop-i invariant-loop decreases-loop) where
+  abbrev loop : tie.At-loop-i invariant-loop decreases-loop
   loop = c.before
 
   abbrev start : tie.Start invariant-loop decreases-loop
@@ -31,54 +31,54 @@ module _ (c : tie.In-loop invariant-loop decreases-loop) where
   abbrev book : List ℕ
   book = start.args.book.now
 
-  read : BookRead book (readable_is book start.pre.0).0
-  read = (readable_is book start.pre.0).1
+  read : BookRead book (readable_is book start.requires.0).0
+  read = (readable_is book start.requires.0).1
 
-  in_book : loop.loop.i < book_lots book
-  in_book = omega (arith, c.loop-test.true, start.pre.1)
+  in_book : loop.loop-i.i < book_lots book
+  in_book = omega (arith, c.loop-i-test.true, start.requires.1)
 
-  few : loop.loop.i < 32
+  few : loop.loop-i.i < 32
   few = omega (arith, in_book, read.lots_within)
 
-  inside : loop.loop.at + row_size (row_at book loop.loop.i) ≤ length book
-  inside = omega (arith, loop.loop.inv.1, row_inside read loop.loop.i in_book)
+  inside : loop.loop-i.at + row_size (row_at book loop.loop-i.i) ≤ length book
+  inside = omega (arith, loop.loop-i.invariant.1, row_inside read loop.loop-i.i in_book)
 
   short : length book ≤ largest_book
   short = book_length read
 
-loop-holds : tie.Need-loop-init invariant-loop decreases-loop
+loop-holds : tie.Need-loop-i-init invariant-loop decreases-loop
 unfolding row_start
 loop-holds c = (omega arith, refl, filled_none _)
 
-enter-row-requires : tie.Need-enter-row-requires invariant-loop decreases-loop
+enter-row-requires : tie.Need-enter_row-requires invariant-loop decreases-loop
 enter-row-requires c κs =
     let t = c.before.before.before in
-    ((loop t).loop.invariant.2.long, omega (arith, few t), omega (arith, inside t, short t))
+    ((loop t).loop-i.invariant.2.long, omega (arith, few t), omega (arith, inside t, short t))
 
-module _ (c : tie.After-size invariant-loop decreases-loop) where
-  abbrev turn : tie.In-loop invariant-loop decreases-loop
+module _ (c : tie.After-size-at invariant-loop decreases-loop) where
+  abbrev turn : tie.In-loop-i invariant-loop decreases-loop
   turn = c.before.before.before.before.before
 
-  size_is : c.size.result ≡ row_size (row_at (book turn) (loop turn).loop.i)
-  size_is = rw (part_is_row _ _ (loop turn).loop.inv.1) at c.size.ensures
+  size_is : c.size-at.result ≡ row_size (row_at (book turn) (loop turn).loop-i.i)
+  size_is = rw (part_is_row _ _ (loop turn).loop-i.invariant.1) at c.size-at.ensures
 
-loop-again : tie.Need-loop-preserved invariant-loop decreases-loop
+loop-again : tie.Need-loop-i-preserved invariant-loop decreases-loop
 loop-again c =
     let u = c.before.before in
     let l = loop (turn c) in (
       omega arith,
-      omega (arith, size_is c, start_next (book (turn c)) l.loop.i, l.loop.inv.1),
-      filled_next _ (start (turn c)).pre.0 _ _ _ (in_book (turn c)) l.loop.inv.2
-          (rw (u.u32-at.ensures, part_is_row _ _ l.loop.inv.1, l.loop.inv.1) at c.before.enter-row.ensures),
+      omega (arith, size_is c, start_next (book (turn c)) l.loop-i.i, l.loop-i.invariant.1),
+      filled_next _ (start (turn c)).requires.0 _ _ _ (in_book (turn c)) l.loop-i.invariant.2
+          (rw (u.u32_at.ensures, part_is_row _ _ l.loop-i.invariant.1, l.loop-i.invariant.1) at c.enter_row.ensures),
     )
 
 returns : tie.Need-returns invariant-loop decreases-loop
 returns c =
     let l = c.before in
-    filled_all _ l.before.before.requires.0 _ _ (omega (arith, l.before.before.requires.1, c.loop-test.false)) l.loop.invariant.2
+    filled_all _ l.requires.0 _ _ (omega (arith, l.requires.1, c.loop-i-test.false)) l.loop-i.invariant.2
 
-pub offsets-spec : {M : Type 1} → statement M
-offsets-spec =
+pub offsets_spec : {M : Type 1} → statement M
+offsets_spec =
     tie.close
     (tie.spec
     invariant-loop

@@ -13,5 +13,5 @@ use Rattle.book.proofs.inner.pair_count.Tie as tie
 counted : (c : tie.Start) → (let a = c.args in length a.book.now ≡ 7 + 4 * a.lots + 4 * size (problem_of a.book.now))
 counted c = omega (arith, c.requires.1, book_counted _ (read_of _ c.requires.0))
 
-pub pair-count-spec : {M : Type 1} → statement M
-pair-count-spec = tie.close (tie.spec (λ c. omega (arith, counted c)) (λ c. omega (arith, counted c)) (λ c. omega (arith, counted c)))
+pub pair_count_spec : {M : Type 1} → statement M
+pair_count_spec = tie.close (tie.spec (λ c. omega (arith, counted c)) (λ c. omega (arith, counted c)) (λ c. omega (arith, counted c)))

@@ -14,40 +14,40 @@ use Rattle.book.proofs.Rows.{part_is_row}
 use Rattle.book.proofs.inner.row_starts.Statement.{statement}
 use Rattle.book.proofs.inner.row_starts.Tie as tie
 
-abbrev invariant-loop : tie.invariant-loop
+abbrev invariant-loop : tie.invariant-loop-i
 invariant-loop book lots starts₀ at₀ i₀ starts at i =
     (i ≤ lots) × (length starts ≡ 32) × (at ≡ row_start book i) × ((k : ℕ) → k < i → get_or starts k 0 ≡ row_start book k)
 
-abbrev decreases-loop : tie.decreases-loop
+abbrev decreases-loop : tie.decreases-loop-i
 decreases-loop book lots starts₀ at₀ i₀ starts at i = lots - i
 
-loop-holds : tie.Need-loop-init invariant-loop decreases-loop
+loop-holds : tie.Need-loop-i-init invariant-loop decreases-loop
 unfolding row_start
 loop-holds c = (omega arith, refl, refl, below_none _)
 
 -- the row of the lot that the loop is at stands in the book
-module _ (c : tie.In-loop invariant-loop decreases-loop) where
+module _ (c : tie.In-loop-i invariant-loop decreases-loop) where
   abbrev start : tie.Start invariant-loop decreases-loop
   start = c.before.before.before
 
-  few : c.before.loop.i < 32
+  few : c.loop-i.i < 32
   few =
-      let known = (readable_is _ start.pre.0).1 in
-      omega (arith, c.loop-test.true, start.pre.1, known.lots_within)
+      let known = (readable_is _ start.requires.0).1 in
+      omega (arith, c.loop-i-test.true, start.requires.1, known.lots_within)
 
   inside : (let book = start.args.book.now in
-      c.before.loop.at + row_size (row_at book c.before.loop.i) ≤ length book)
+      c.loop-i.at + row_size (row_at book c.loop-i.i) ≤ length book)
   inside =
-      let known = (readable_is _ start.pre.0).1 in
-      omega (arith, c.before.loop.invariant.2, row_inside known c.before.loop.i (omega (arith, c.loop-test.true, start.pre.1)))
+      let known = (readable_is _ start.requires.0).1 in
+      omega (arith, c.loop-i.invariant.2, row_inside known c.loop-i.i (omega (arith, c.loop-i-test.true, start.requires.1)))
 
-size_is : (c : tie.After-size invariant-loop decreases-loop) → (let l = c.before.before.before in
-    c.size.result ≡ row_size (row_at l.before.before.args.book.now l.loop.i))
-size_is c = rw (part_is_row _ _ c.before.before.before.loop.invariant.2) at c.size.ensures
+size_is : (c : tie.After-size-at invariant-loop decreases-loop) → (let l = c.before.before.before in
+    c.size-at.result ≡ row_size (row_at l.args.book.now l.loop-i.i))
+size_is c = rw (part_is_row _ _ c.loop-i.invariant.2) at c.size-at.ensures
 
-loop-again : tie.Need-loop-preserved invariant-loop decreases-loop
+loop-again : tie.Need-loop-i-preserved invariant-loop decreases-loop
 loop-again c =
-    let l = c.before.before.before.loop in (
+    let l = c.loop-i in (
       omega arith,
       simp length-set l.invariant.1,
       rw (size_is c, start_next, l.invariant.2),
@@ -57,10 +57,10 @@ loop-again c =
     )
 
 returns : tie.Need-returns invariant-loop decreases-loop
-returns c = λ i h. c.before.loop.invariant.3 i (omega (arith, c.loop-test.false))
+returns c = λ i h. c.loop-i.invariant.3 i (omega (arith, c.loop-i-test.false))
 
-pub row-starts-spec : {M : Type 1} → statement M
-row-starts-spec =
+pub row_starts_spec : {M : Type 1} → statement M
+row_starts_spec =
     tie.close
     (tie.spec
     invariant-loop

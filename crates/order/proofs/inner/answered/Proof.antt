@@ -5,11 +5,11 @@ use Rattle.quadruples.proofs.Replies.{goes_on, stops}
 use Rattle.order.proofs.inner.answered.Statement.{statement}
 use Rattle.order.proofs.inner.answered.Tie as tie
 
-returns : tie.Need-returns
-returns c = sym (goes_on _ _ c.enum_told.given.1)
+returns : tie.Need-returns-in-Passes
+returns c = sym (goes_on _ _ c.in-Passes.is)
 
-returns-2 : tie.Need-returns-2
-returns-2 c = sym (stops _ _ _ c.before.v.given.1)
+returns-2 : tie.Need-returns-in-Refused
+returns-2 c = sym (stops _ _ _ c.in-Refused.is)
 
-pub answered-spec : {M : Type 1} → statement M
-answered-spec = tie.close (tie.spec (λ c. search rules) (λ c. search rules) returns returns-2)
+pub answered_spec : {M : Type 1} → statement M
+answered_spec = tie.close (tie.spec (λ c. search rules) (λ c. search rules) returns returns-2)

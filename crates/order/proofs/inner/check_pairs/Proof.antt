@@ -26,11 +26,11 @@ use Rattle.order.proofs.Settling.{answer_refused, answer_missing, answer_settled
 use Rattle.order.proofs.inner.check_pairs.Statement.{statement}
 use Rattle.order.proofs.inner.check_pairs.Tie as tie
 
-fill-places-requires : tie.Need-fill-places-requires
-fill-places-requires c κs = (c.before.before.before.requires.1, shows_all (omega arith) (omega arith) 0)
+fill-places-requires : tie.Need-fill_places-met-requires
+fill-places-requires c κs = (c.requires.1, shows_all (omega arith) (omega arith) 0)
 
 -- past the pairs' own tests, 9 and 10 by the table are those of the book
-module _ (c : tie.After-fill-places) where
+module _ (c : tie.After-fill_places-met) where
   abbrev start : tie.Start
   start = c.before.before.before.before
 
@@ -43,44 +43,44 @@ module _ (c : tie.After-fill-places) where
   abbrev S : List Pair
   S = rest start.args.order.now start.args.count 0
 
-  says : stated_step c.fill-places.result ≡ check_pairs P [] 0 S
+  says : stated_step c.fill_places-met.result ≡ check_pairs P [] 0 S
   says =
       let a = start.args in
-      let same = same_held book a.offsets.now a.starts.now a.n a.m start.pre.0 in
-      c.fill-places.ensures.says book ∙ pairs_by_table book a.offsets.now a.n a.m same [] 0 S
+      let same = same_held book a.offsets.now a.starts.now a.n a.m start.requires.0 in
+      c.fill_places-met.ensures.says book ∙ pairs_by_table book a.offsets.now a.n a.m same [] 0 S
 
   long : length S ≡ start.args.count
   long = rest_length start.args.order.now start.args.count
 
   -- the book's length counts the eligible pairs
   counted : length book ≡ 7 + 4 * start.args.n + 4 * size P
-  counted = book_counted book (counts_are book (sym start.pre.0.reads))
+  counted = book_counted book (counts_are book (sym start.requires.0.reads))
 
   whole_is : checked_pairs P S start.args.count
       ≡ checked_pairs P (pairs start.args.count (drop 7 start.args.order.now)) start.args.count
   whole_is = ap (λ (U : List Pair). checked_pairs P U start.args.count) (rest_whole start.args.order.now start.args.count)
 
-returns : tie.Need-returns
+returns : tie.Need-returns-in_default
 returns c =
-    let f = c.before.before.before in
-    c.answered.ensures ∙ answer_refused (P f) (S f) (start f).args.count _ (says f) _ c.before.enum-told2.given.1 ∙ whole_is f
+    let f = c.before.before in
+    c.answered.ensures ∙ answer_refused (P f) (S f) (start f).args.count _ (says f) _ c.in_default.is ∙ whole_is f
 
 -- no pair is refused
-module _ (c : tie.After-enum-told) where
-  abbrev filled : tie.After-fill-places
-  filled = c.before.before
+module _ (c : tie.In-Passes) where
+  abbrev filled : tie.After-fill_places-met
+  filled = c.before
 
-  passes : filled.fill-places.result ≡ Passes
-  passes = c.enum_told.given.1
+  passes : filled.fill_places-met.result ≡ Passes
+  passes = c.in-Passes.is
 
   passed : check_pairs (P filled) [] 0 (S filled) ≡ gives tt
   passed = sym (says filled) ∙ ap stated_step passes
 
 -- as many are listed as are eligible
-enough : (c : tie.Else1) → size (P (filled c.before)) ≤ length (S (filled c.before))
-enough c = let f = filled c.before in omega (arith, long f, counted f, c.if1.false)
+enough : (c : tie.Else-n-count) → size (P (filled c.before)) ≤ length (S (filled c.before))
+enough c = let f = filled c.before in omega (arith, long f, counted f, c.if-n-count.false)
 
-returns-2 : tie.Need-returns-2
+returns-2 : tie.Need-returns-then-n-count
 returns-2 c =
     let t = c.before in
     let f = filled t in
@@ -93,25 +93,25 @@ settle-requires c κs =
     let t = c.before.before in
     let f = filled t in
     record {
-      held = (start f).pre.0;
-      sized = (start f).pre.1;
+      held = (start f).requires.0;
+      sized = (start f).requires.1;
       each_once = order_of_pairs (P f) (admitted_inside (book f)) (S f) (passed t) (enough c.before);
-      shows = f.fill-places.ensures.shows (passes t);
+      shows = f.fill_places-met.ensures.shows (passes t);
     }
 
-returns-3 : tie.Need-returns-3
+returns-3 : tie.Need-returns
 returns-3 c =
     let e = c.before.before.before in
     let t = e.before in
     let f = filled t in
-    c.answered2.ensures
+    c.answered-2.ensures
     ∙ answer_settled (P f) (S f) (start f).args.count _ (says f) (passes t)
     (none_missing (P f) (admitted_inside (book f)) (S f) (passed t) (enough e))
-    c.before.settle.result c.before.settle.ensures
+    c.settle.result c.settle.ensures
     ∙ whole_is f
 
-pub check-pairs-spec : {M : Type 1} → statement M
-check-pairs-spec =
+pub check_pairs_spec : {M : Type 1} → statement M
+check_pairs_spec =
     tie.close
     (tie.spec
     fill-places-requires

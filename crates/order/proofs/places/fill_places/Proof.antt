@@ -17,65 +17,65 @@ use Rattle.order.proofs.Turns.{turn_says, turn_shows}
 use Rattle.order.proofs.places.fill_places.Statement.{statement}
 use Rattle.order.proofs.places.fill_places.Tie as tie
 
-abbrev invariant-loop : tie.invariant-loop
+abbrev invariant-loop : tie.invariant-loop-p
 invariant-loop offsets n m order count places₀ p₀ places p =
     (p ≤ count)
     × Shows 32 32 places (met_at order p)
     × ((book : List ℕ) → check_pairs (problem_by book offsets n m) [] 0 (rest order count 0)
     ≡ check_pairs (problem_by book offsets n m) (passed order p) p (rest order count p))
 
-abbrev decreases-loop : tie.decreases-loop
+abbrev decreases-loop : tie.decreases-loop-p
 decreases-loop offsets n m order count places₀ p₀ places p = count - p
 
-loop-holds : tie.Need-loop-init invariant-loop decreases-loop
+loop-holds : tie.Need-loop-p-init invariant-loop decreases-loop
 unfolding passed met_at
-loop-holds c = (omega arith, c.before.requires.1, λ book. refl)
+loop-holds c = (omega arith, c.requires.1, λ book. refl)
 
-returns : tie.Need-returns invariant-loop decreases-loop
+returns : tie.Need-returns-in_default invariant-loop decreases-loop
 returns c =
-    let met = c.before.before in
-    let l = met.before.before.before.before.before.loop in
+    let met = c.before in
+    let l = met.loop-p in
     let start = met.before.before.before.before.before.before.before in
     let a = start.args in
     record {
       says = λ book. sym (l.invariant.2 book
           ∙ turn_says a.offsets.now a.order.now a.count a.n a.m start.requires.0.few_lots start.requires.0.few_calls
-          l.p _ _ met.before.before.before.lot-at.ensures met.before.before.call_at.ensures
-          met.before.before.before.before.loop-test.true _ _ l.invariant.1 _ met.meet.ensures book
-          ∙ stops _ _ _ c.enum-told2.given.1 ∙ sym (ap stated_step c.enum-told2.given.1));
-      shows = λ e. refused_not_passes _ (sym c.enum-told2.given.1 ∙ e);
+          l.p _ _ met.lot_at.ensures met.call_at.ensures
+          met.loop-p-test.true _ _ l.invariant.1 _ met.meet-met.ensures book
+          ∙ stops _ _ _ c.in_default.is ∙ sym (ap stated_step c.in_default.is));
+      shows = λ e. refused_not_passes _ (sym c.in_default.is ∙ e);
     }
 
-loop-again : tie.Need-loop-preserved invariant-loop decreases-loop
+loop-again : tie.Need-loop-p-preserved invariant-loop decreases-loop
 loop-again c =
-    let met = c.before.before in
-    let l = met.before.before.before.before.before.loop in
+    let met = c.before in
+    let l = met.loop-p in
     let start = met.before.before.before.before.before.before.before in
     let a = start.args in (
       omega arith,
       turn_shows a.offsets.now a.order.now a.count a.n a.m start.requires.0.few_lots start.requires.0.few_calls
-          l.p _ _ met.before.before.before.lot-at.ensures met.before.before.call_at.ensures
-          met.before.before.before.before.loop-test.true _ _ l.invariant.1 _ met.meet.ensures c.enum_told.given.1,
+          l.p _ _ met.lot_at.ensures met.call_at.ensures
+          met.loop-p-test.true _ _ l.invariant.1 _ met.meet-met.ensures c.in-Passes.is,
       λ book. l.invariant.2 book
           ∙ turn_says a.offsets.now a.order.now a.count a.n a.m start.requires.0.few_lots start.requires.0.few_calls
-          l.p _ _ met.before.before.before.lot-at.ensures met.before.before.call_at.ensures
-          met.before.before.before.before.loop-test.true _ _ l.invariant.1 _ met.meet.ensures book
-          ∙ goes_on _ _ c.enum_told.given.1,
+          l.p _ _ met.lot_at.ensures met.call_at.ensures
+          met.loop-p-test.true _ _ l.invariant.1 _ met.meet-met.ensures book
+          ∙ goes_on _ _ c.in-Passes.is,
     )
 
-returns-2 : tie.Need-returns-2 invariant-loop decreases-loop
+returns-2 : tie.Need-returns invariant-loop decreases-loop
 unfolding check_pairs
 returns-2 c =
-    let l = c.before.loop in
-    let a = c.before.before.before.args in
+    let l = c.loop-p in
+    let a = c.args in
     let e : l.p ≡ a.count = omega arith in
     record {
       says = λ book. sym (rw (e, rest_none, check_pairs) at (l.invariant.2 book));
       shows = λ _. rw e at l.invariant.1;
     }
 
-pub fill-places-spec : {M : Type 1} → statement M
-fill-places-spec =
+pub fill_places_spec : {M : Type 1} → statement M
+fill_places_spec =
     tie.close
     (tie.spec
     invariant-loop

@@ -17,15 +17,15 @@ module _ (c : tie.Start) where
       let readable = c.requires.0.readable in
       (lot_in book readable _ c.requires.0.own.0, call_in book readable _ c.requires.2)
 
-entry-of-requires : tie.Need-entry-of-requires
+entry-of-requires : tie.Need-entry_of-requires
 entry-of-requires c κs = inside c.before
 
-returns : tie.Need-returns
+returns : tie.Need-returns-then-entry_of-place
 returns c =
-    let a = c.before.before.before.args in
+    let a = c.args in
     rw (le-ltb (a.place + 1) (entry a.places.now a.i.0 a.l.0) (omega arith))
 
-test-quadruple-requires : tie.Need-test-quadruple-requires
+test-quadruple-requires : tie.Need-test_quadruple-requires
 test-quadruple-requires c κs =
     let start = c.before.before.before in
     let scan = start.requires.0 in (
@@ -38,11 +38,11 @@ test-quadruple-requires c κs =
       scan.offsets,
     )
 
-returns-2 : tie.Need-returns-2
+returns-2 : tie.Need-returns
 returns-2 c =
-    let a = c.before.before.before.before.before.args in
-    rw (lt-ltb (a.place + 1) (entry a.places.now a.i.0 a.l.0) (omega arith)) (c.named.ensures ∙ c.before.test-quadruple.ensures)
+    let a = c.args in
+    rw (lt-ltb (a.place + 1) (entry a.places.now a.i.0 a.l.0) (omega arith)) (c.named.ensures ∙ c.test_quadruple.ensures)
 
-pub call-failure-spec : {M : Type 1} → statement M
-call-failure-spec =
+pub call_failure_spec : {M : Type 1} → statement M
+call_failure_spec =
     tie.close (tie.spec entry-of-requires (λ c. search rules) returns test-quadruple-requires (λ c κs. search rules) returns-2)

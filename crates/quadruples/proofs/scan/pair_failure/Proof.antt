@@ -11,46 +11,46 @@ use Rattle.quadruples.proofs.Scanning.{turn_begins, turn_goes_on, turn_stops, tu
 use Rattle.quadruples.proofs.scan.pair_failure.Statement.{statement}
 use Rattle.quadruples.proofs.scan.pair_failure.Tie as tie
 
-abbrev invariant-loop : tie.invariant-loop
+abbrev invariant-loop : tie.invariant-loop-k
 invariant-loop book offsets places n m place i j k₀ k =
     (k ≤ n)
     × (in_turn n 0 (λ o. in_turn m 0 (quadruple_at (problem_of book) places place (pair i.0 j.0) o))
     ≡ in_turn (n - k) k (λ o. in_turn m 0 (quadruple_at (problem_of book) places place (pair i.0 j.0) o)))
 
-abbrev decreases-loop : tie.decreases-loop
+abbrev decreases-loop : tie.decreases-loop-k
 decreases-loop book offsets places n m place i j k₀ k = n - k
 
-loop-holds : tie.Need-loop-init invariant-loop decreases-loop
+loop-holds : tie.Need-loop-k-init invariant-loop decreases-loop
 loop-holds c = (omega arith, turn_begins _ _)
 
-lot-failure-requires : tie.Need-lot-failure-requires invariant-loop decreases-loop
+lot-failure-requires : tie.Need-lot_failure-found-requires invariant-loop decreases-loop
 lot-failure-requires c κs =
-    let pre = c.before.before.before.requires in (pre.0, omega (arith, pre.1), pre.2)
+    let pre = c.requires in (pre.0, omega (arith, pre.1), pre.2)
 
-returns : tie.Need-returns invariant-loop decreases-loop
+returns : tie.Need-returns-in_default invariant-loop decreases-loop
 returns c =
-    let found = c.before.before in
-    let l = found.before.before.loop in
-    let here = found.before.loop-test.true in
-    sym (l.invariant.1 ∙ turn_stops _ _ _ _ l.k here found.lot-failure.ensures c.enum-told2.given.1)
+    let found = c.before in
+    let l = found.loop-k in
+    let here = found.loop-k-test.true in
+    sym (l.invariant.1 ∙ turn_stops _ _ _ _ l.k here found.lot_failure-found.ensures c.in_default.is)
 
-loop-again : tie.Need-loop-preserved invariant-loop decreases-loop
+loop-again : tie.Need-loop-k-preserved invariant-loop decreases-loop
 loop-again c =
-    let found = c.before.before in
-    let l = found.before.before.loop in
-    let here = found.before.loop-test.true in (
+    let found = c.before in
+    let l = found.loop-k in
+    let here = found.loop-k-test.true in (
       omega arith,
-      l.invariant.1 ∙ turn_goes_on _ _ _ l.k here found.lot-failure.ensures c.enum_told.given.1,
+      l.invariant.1 ∙ turn_goes_on _ _ _ l.k here found.lot_failure-found.ensures c.in-Passes.is,
     )
 
-returns-2 : tie.Need-returns-2 invariant-loop decreases-loop
+returns-2 : tie.Need-returns invariant-loop decreases-loop
 returns-2 c =
-    let l = c.before.loop in
-    let e : l.k ≡ c.before.before.before.args.n = omega arith in
+    let l = c.loop-k in
+    let e : l.k ≡ c.args.n = omega arith in
     sym (rw e at l.invariant.1 ∙ turn_ends _ _)
 
-pub pair-failure-spec : {M : Type 1} → statement M
-pair-failure-spec =
+pub pair_failure_spec : {M : Type 1} → statement M
+pair_failure_spec =
     tie.close
     (tie.spec
     invariant-loop

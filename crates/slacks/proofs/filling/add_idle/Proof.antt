@@ -4,31 +4,31 @@ use Rattle.slacks.proofs.Idle.{Idled, idled_none, idled_more, idle_slacks, idle_
 use Rattle.slacks.proofs.filling.add_idle.Statement.{statement}
 use Rattle.slacks.proofs.filling.add_idle.Tie as tie
 
-abbrev invariant-loop : tie.invariant-loop
+abbrev invariant-loop : tie.invariant-loop-i
 invariant-loop slacks₀ words₀ n m i₀ slacks words i = (i ≤ n) × Idled m i slacks₀ slacks words₀ words
 
-abbrev decreases-loop : tie.decreases-loop
+abbrev decreases-loop : tie.decreases-loop-i
 decreases-loop slacks₀ words₀ n m i₀ slacks words i = n - i
 
 few : (s : tie.Start invariant-loop decreases-loop) → (s.args.n ≤ 32) × (s.args.m < 32)
 few s = (s.requires.0.lots_few, s.requires.2)
 
-loop-again : tie.Need-loop-preserved invariant-loop decreases-loop
+loop-again : tie.Need-loop-i-preserved invariant-loop decreases-loop
 loop-again c =
     let t = c.before.before in
-    let (s, w, few) = t.before.before.requires in
-    (omega arith, idled_more s w few t.before.loop.invariant.1 _ t.loop-test.true c.including.ensures)
+    let (s, w, few) = t.requires in
+    (omega arith, idled_more s w few t.loop-i.invariant.1 _ t.loop-i-test.true c.including.ensures)
 
 returns : tie.Need-returns invariant-loop decreases-loop
 returns c =
     let l = c.before in
-    let (s, w, few) = l.before.requires in
-    let e : l.loop.i ≡ l.before.args.n = omega (arith, c.loop-test.false) in
-    let d = rw e at l.loop.invariant.1 in
+    let (s, w, few) = l.requires in
+    let e : l.loop-i.i ≡ l.args.n = omega (arith, c.loop-i-test.false) in
+    let d = rw e at l.loop-i.invariant.1 in
     (idle_states s w few d, (idle_slacks s w few d, idle_words s w few d))
 
-pub add-idle-spec : {M : Type 1} → statement M
-add-idle-spec =
+pub add_idle_spec : {M : Type 1} → statement M
+add_idle_spec =
     tie.close
     (tie.spec
     invariant-loop
@@ -37,12 +37,12 @@ add-idle-spec =
     (λ c. omega (arith, few c.before.before))
     (λ c. omega (arith, few c.before.before))
     (λ c. omega (arith, few c.before.before))
-    (λ c. omega (arith, few c.before.before))
-    (λ c. omega (arith, few c.before.before))
-    (λ c. omega (arith, few c.before.before))
-    (λ c κs. (few c.before.before.before).1)
+    (λ c. omega (arith, few c.before.before.before))
+    (λ c. omega (arith, few c.before.before.before))
     (λ c. omega (arith, few c.before.before.before.before))
-    (λ c. omega (arith, few c.before.before.before.before))
+    (λ c κs. (few c.before.before.before.before.before).1)
+    (λ c. omega (arith, few c.before.before.before.before.before.before))
+    (λ c. omega (arith, few c.before.before.before.before.before.before))
     (λ c. omega arith) (λ c. omega arith)
     loop-again
     returns)

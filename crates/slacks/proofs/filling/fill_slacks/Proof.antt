@@ -13,17 +13,17 @@ use Rattle.slacks.proofs.Entering.{filled_none, filled_more, word_is, lot_within
 use Rattle.slacks.proofs.filling.fill_slacks.Statement.{statement}
 use Rattle.slacks.proofs.filling.fill_slacks.Tie as tie
 
-abbrev invariant-loop : tie.invariant-loop
+abbrev invariant-loop : tie.invariant-loop-i
 invariant-loop book n m slacks₀ words₀ all at₀ i₀ slacks words at i =
     (i ≤ n) × Reached book i 0 (at + 4) slacks × Filled (λ k word. word ≡ row_word (row_at book k)) i (replicate 32 0) words
 
-abbrev decreases-loop : tie.decreases-loop
+abbrev decreases-loop : tie.decreases-loop-i
 decreases-loop book n m slacks₀ words₀ all at₀ i₀ slacks words at i = n - i
 
 read : (s : tie.Start invariant-loop decreases-loop) → Read s.args.book.now s.args.n s.args.m
 read s = counts_are _ (sym s.requires.0)
 
-loop-holds : tie.Need-loop-init invariant-loop decreases-loop
+loop-holds : tie.Need-loop-i-init invariant-loop decreases-loop
 unfolding row_start
 loop-holds c =
     let s = c.before.before in
@@ -33,30 +33,30 @@ loop-holds c =
     (omega arith, search rules, filled_none s.requires.2)
 
 -- the lot that the loop is at is in the book
-module _ (c : tie.In-loop invariant-loop decreases-loop) where
+module _ (c : tie.In-loop-i invariant-loop decreases-loop) where
   abbrev start : tie.Start invariant-loop decreases-loop
   start = c.before.before.before.before
 
-  lot_in : c.before.loop.i < book_lots start.args.book.now
-  lot_in = omega (arith, (read start).lots_is, c.loop-test.true)
+  lot_in : c.loop-i.i < book_lots start.args.book.now
+  lot_in = omega (arith, (read start).lots_is, c.loop-i-test.true)
 
-  room : (c.before.loop.i < 32) × (c.before.loop.at + 4 ≤ length start.args.book.now)
-  room = let known = lot_within c.before.loop.invariant.1 lot_in in (known.0, known.2)
+  room : (c.loop-i.i < 32) × (c.loop-i.at + 4 ≤ length start.args.book.now)
+  room = let known = lot_within c.loop-i.invariant.1 lot_in in (known.0, known.2)
 
-enter-lot-requires : tie.Need-enter-lot-requires invariant-loop decreases-loop
+enter-lot-requires : tie.Need-enter_lot-at-requires invariant-loop decreases-loop
 enter-lot-requires c κs =
     let t = c.before.before in
     let l = t.before in
-    let reached = l.loop.invariant.1 in
-    (reached, lot_in t, (read (start t)).calls_is, c.before.cost_at.ensures ∙ word_is _ reached, l.before.all-calls.ensures)
+    let reached = l.loop-i.invariant.1 in
+    (reached, lot_in t.before, (read (start t.before)).calls_is, c.cost_at-word.ensures ∙ word_is _ reached, l.all_calls-all.ensures)
 
-loop-again : tie.Need-loop-preserved invariant-loop decreases-loop
+loop-again : tie.Need-loop-i-preserved invariant-loop decreases-loop
 loop-again c =
-    let (_, reached, words) = c.before.before.before.before.loop.invariant in (
+    let (_, reached, words) = c.loop-i.invariant in (
       omega arith,
-      c.enter-lot.ensures,
-      filled_more words _ (omega (arith, room c.before.before.before, length-replicate {A = ℕ} 32 0))
-          (c.before.before.cost_at.ensures ∙ word_is _ reached),
+      c.enter_lot-at.ensures,
+      filled_more words _ (omega (arith, room c.before.before.before.before, length-replicate {A = ℕ} 32 0))
+          (c.cost_at-word.ensures ∙ word_is _ reached),
     )
 
 returns : tie.Need-returns invariant-loop decreases-loop
@@ -64,13 +64,13 @@ returns c =
     let l = c.before.before in
     let s = l.before.before.before in
     let r = read s in
-    let e : l.loop.i ≡ s.args.n = omega (arith, c.before.loop-test.false) in
-    let (_, all, words) = rw e at l.loop.invariant in
+    let e : l.loop-i.i ≡ s.args.n = omega (arith, c.loop-i-test.false) in
+    let (_, all, words) = rw e at l.loop-i.invariant in
     let same = stated_same r _ (slack_here r all) in
-    (same, (stated_idle r _ (slack_here r all), (filled_slacks r all, filled_words r all words, c.pair-count.ensures ∙ size_of_same same)))
+    (same, (stated_idle r _ (slack_here r all), (filled_slacks r all, filled_words r all words, c.pair_count.ensures ∙ size_of_same same)))
 
-pub fill-slacks-spec : {M : Type 1} → statement M
-fill-slacks-spec =
+pub fill_slacks_spec : {M : Type 1} → statement M
+fill_slacks_spec =
     tie.close
     (tie.spec
     invariant-loop
@@ -79,7 +79,7 @@ fill-slacks-spec =
     loop-holds
     (λ c κs. (room c).1)
     (λ c. omega (arith, room c.before))
-    (λ c. (room c.before).0)
+    (λ c. (room c.before.before).0)
     enter-lot-requires
     (λ c. omega arith) (λ c. omega arith)
     loop-again

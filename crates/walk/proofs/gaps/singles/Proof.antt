@@ -4,18 +4,18 @@ use Rattle.rows.proofs.Bits.{one_shifted}
 use Rattle.walk.proofs.gaps.singles.Statement.{statement}
 use Rattle.walk.proofs.gaps.singles.Tie as tie
 
-abbrev invariant-loop : tie.invariant-loop
+abbrev invariant-loop : tie.invariant-loop-call
 invariant-loop words₀ call₀ words call = (call ≤ 32) × (length words ≡ 32) × ((k : ℕ) → k < call → get_or words k 0 ≡ 2 ^ k)
 
-abbrev decreases-loop : tie.decreases-loop
+abbrev decreases-loop : tie.decreases-loop-call
 decreases-loop words₀ call₀ words call = 32 - call
 
-loop-holds : tie.Need-loop-init invariant-loop decreases-loop
+loop-holds : tie.Need-loop-call-init invariant-loop decreases-loop
 loop-holds c = (omega arith, refl, below_none _)
 
-loop-again : tie.Need-loop-preserved invariant-loop decreases-loop
+loop-again : tie.Need-loop-call-preserved invariant-loop decreases-loop
 loop-again c =
-    let l = c.before.loop in (
+    let l = c.loop-call in (
       omega arith,
       simp length-set l.invariant.1,
       below_more _ l.call
@@ -24,10 +24,10 @@ loop-again c =
     )
 
 returns : tie.Need-returns invariant-loop decreases-loop
-returns c = record { is = λ l h. c.before.loop.invariant.2 l (omega arith) }
+returns c = record { is = λ l h. c.loop-call.invariant.2 l (omega arith) }
 
-pub singles-spec : {M : Type 1} → statement M
-singles-spec =
+pub singles_spec : {M : Type 1} → statement M
+singles_spec =
     tie.close
     (tie.spec
     invariant-loop
