@@ -7,28 +7,28 @@ use Rattle.answers.proofs.Signs.{bits_are}
 use Rattle.answers.proofs.cost.Statement.{statement}
 use Rattle.answers.proofs.cost.Tie as tie
 
-returns : tie.Need-returns
+returns : tie.Need-returns-in-Of
 unfolding answer_of
 returns c =
     let k = c.before.before in
-    let cost : ℤ = k.before.reply.given.0.0 in
-    let is : c.before.bits.result ≡ bits_of cost = c.before.bits.ensures ∙ bits_are cost (sfits_of k.known-told.given.0.1) in
-    simp (c.accepted.ensures, is, k.before.reply.given.1)
+    let cost : ℤ = k.in-Of.cost in
+    let is : c.bits.result ≡ bits_of cost = c.bits.ensures ∙ bits_are cost (sfits_of k.in-Of.known_told-1-own.given.0.1) in
+    simp (c.accepted.ensures, is, k.in-Of.is)
 
-returns-2 : tie.Need-returns-2
+returns-2 : tie.Need-returns-in-NotEligible
 unfolding answer_of
-returns-2 c = simp (c.accepted2.ensures, c.before.enum_told.given.1)
+returns-2 c = simp (c.accepted-in-NotEligible.ensures, c.in-NotEligible.is)
 
-returns-3 : tie.Need-returns-3
+returns-3 : tie.Need-returns-in-Outside
 unfolding answer_of
-returns-3 c = simp (c.accepted3.ensures, c.before.enum-told2.given.1)
+returns-3 c = simp (c.accepted-in-Outside.ensures, c.in-Outside.is)
 
-returns-4 : tie.Need-returns-4
+returns-4 : tie.Need-returns-in-Refused
 unfolding answer_of
-returns-4 c = simp (c.refused.ensures, c.before.before.reply2.given.1)
+returns-4 c = simp (c.refused.ensures, c.in-Refused.is)
 
-pub cost-spec : {M : Type 1} → statement M
-cost-spec =
+pub cost_spec : {M : Type 1} → statement M
+cost_spec =
     tie.close
     (tie.spec
     (λ c. search rules) (λ c. search rules) (λ c κs. search rules) (λ c. search rules) (λ c κs. search rules) (λ c. search rules)

@@ -4,16 +4,16 @@ use Rattle.answers.specs.Answers.{answer_of}
 use Rattle.answers.proofs.counts.Statement.{statement}
 use Rattle.answers.proofs.counts.Tie as tie
 
-returns : tie.Need-returns
+returns : tie.Need-returns-in-Are
 unfolding answer_of
-returns c = simp (c.accepted.ensures, c.before.before.reply.given.1)
+returns c = simp (c.accepted.ensures, c.in-Are.is)
 
-returns-2 : tie.Need-returns-2
+returns-2 : tie.Need-returns-in-Refused
 unfolding answer_of
-returns-2 c = simp (c.refused.ensures, c.before.before.reply2.given.1)
+returns-2 c = simp (c.refused.ensures, c.in-Refused.is)
 
-pub counts-spec : {M : Type 1} → statement M
-counts-spec =
+pub counts_spec : {M : Type 1} → statement M
+counts_spec =
     tie.close
     (tie.spec
     (λ c. search rules) (λ c κs. search rules) (λ c. search rules) (λ c κs. search rules)

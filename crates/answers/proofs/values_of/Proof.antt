@@ -40,18 +40,18 @@ no-values refusal.NoIdleCall h = refl
 no-values refusal.AboveEight h = refl
 no-values refusal.ReserveExceedsLot h = refl
 
-returns-7 : tie.Need-returns-7
-returns-7 c = no-values c.before.args.cause c.match.keys7
+returns-7 : tie.Need-returns-in_default
+returns-7 c = no-values c.args.cause c.in_default.in_default-own.keys7
 
-pub values-of-spec : {M : Type 1} → statement M
-values-of-spec =
+pub values_of_spec : {M : Type 1} → statement M
+values_of_spec =
     tie.close
     (tie.spec
     (λ c. search rules) (λ c. search rules) (λ c. search rules) (λ c. search rules) (λ c. search rules) (λ c. search rules)
-    (λ c. rw c.before.cause.given.1)
-    (λ c. rw c.before.cause2.given.1)
-    (λ c. rw c.before.cause3.given.1)
-    (λ c. rw c.before.cause4.given.1)
-    (λ c. rw c.before.cause5.given.1)
-    (λ c. rw c.before.cause6.given.1)
+    (λ c. rw c.in-BitOutside.is)
+    (λ c. rw c.in-CostTooHigh.is)
+    (λ c. rw c.in-PairNotEligible.is)
+    (λ c. rw c.in-PairMetBefore.is)
+    (λ c. rw c.in-CrossNotEligible.is)
+    (λ c. rw c.in-CrossSumTooHigh.is)
     returns-7)

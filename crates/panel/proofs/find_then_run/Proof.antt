@@ -19,28 +19,28 @@ given s = record { read = s.requires.0; few_lots = s.requires.1; few_calls = s.r
 fill-requires : tie.Need-fill-requires
 fill-requires c κs = let g = given c.before.before.before.before.before in (within g, (known g).lots_is, refl, refl)
 
-pair-count-requires : tie.Need-pair-count-requires
+pair-count-requires : tie.Need-pair_count-total-requires
 pair-count-requires c κs = let k = known (given c.before.before.before.before.before.before) in (k.is_readable, k.lots_is)
 
-remaining-of-requires : tie.Need-remaining-of-requires
+remaining-of-requires : tie.Need-remaining_of-remaining-requires
 remaining-of-requires c κs = loadable (given c.before.before.before.before.before.before.before)
 
-take-all-requires : tie.Need-take-all-requires
+take-all-requires : tie.Need-take_all-taken-requires
 take-all-requires c κs =
     let l = c.before.before in
     let g = given l.before.before.before.before.before.before.before.before in
-    (searching g l.before.before.fill.ensures l.remaining-of.ensures l.before.pair-count.ensures, refl)
+    (searching g l.fill.ensures l.remaining_of-remaining.ensures l.pair_count-total.ensures, refl)
 
 -- the search has answered
-module _ (t : tie.After-take-all) where
+module _ (t : tie.After-take_all-taken) where
   abbrev start : tie.Start
   start = t.before.before.before.before.before.before.before.before.before.before.before
 
   abbrev slacks : List ℕ
-  slacks = t.before.before.before.before.before.fill.last.1.1.0
+  slacks = t.fill.last.1.1.0
 
   abbrev units : List ℕ
-  units = t.take_all.last.1.1.1.1.1.1.0
+  units = t.take_all-taken.last.1.1.1.1.1.1.0
 
   abbrev book : List ℕ
   book = start.args.book.now
@@ -48,51 +48,51 @@ module _ (t : tie.After-take-all) where
   abbrev amounts : List ℕ
   amounts = start.args.amounts.now
 
-  filled : Filled book start.args.n slacks t.before.before.before.before.before.fill.last.1.1.1.0
-  filled = t.before.before.before.before.before.fill.ensures
+  filled : Filled book start.args.n slacks t.fill.last.1.1.1.0
+  filled = t.fill.ensures
 
-  taken-all : t.take_all.result.all ≡ true
-      → Ended (problem_in slacks start.args.n start.args.m) (lot_amount amounts) (call_amount book amounts) t.take_all.result units
-  taken-all = ended (given start) filled t.before.before.before.remaining-of.ensures t.take_all.result units t.take_all.ensures
+  taken-all : t.take_all-taken.result.all ≡ true
+      → Ended (problem_in slacks start.args.n start.args.m) (lot_amount amounts) (call_amount book amounts) t.take_all-taken.result units
+  taken-all = ended (given start) filled t.remaining_of-remaining.ensures t.take_all-taken.result units t.take_all-taken.ensures
 
-returns : tie.Need-returns
+returns : tie.Need-returns-then-not-taken
 returns c =
     let t = c.before.before in
-    refused_13 (given (start t)) (filled t) t.before.before.before.remaining-of.ensures t.take_all.result (units t) t.take_all.ensures
-    (sym (not-not t.take_all.result.all) ∙ ap not c.if1.true)
+    refused_13 (given (start t)) (filled t) t.remaining_of-remaining.ensures t.take_all-taken.result (units t) t.take_all-taken.ensures
+    (sym (not-not t.take_all-taken.result.all) ∙ ap not c.if-not-taken.true)
 
 -- an order is found
-module _ (e : tie.Else1) where
-  abbrev answer : tie.After-take-all
+module _ (e : tie.Else-not-taken) where
+  abbrev answer : tie.After-take_all-taken
   answer = e.before.before
 
   end : Ended (problem_in (slacks answer) (start answer).args.n (start answer).args.m)
-      (lot_amount (amounts answer)) (call_amount (book answer) (amounts answer)) answer.take_all.result (units answer)
-  end = taken-all answer (sym (not-not answer.take_all.result.all) ∙ ap not e.if1.left)
+      (lot_amount (amounts answer)) (call_amount (book answer) (amounts answer)) answer.take_all-taken.result (units answer)
+  end = taken-all answer (sym (not-not answer.take_all-taken.result.all) ∙ ap not e.if-not-taken.false)
 
-mul-write-flow : tie.Need-overflow-mul-write-flow
+mul-write-flow : tie.Need-overflow_mul-n
 mul-write-flow c = omega (arith, cells_few (given (start (answer c.before))))
 
-write-flow-requires : tie.Need-write-flow-requires
+write-flow-requires : tie.Need-write_flow-requires
 write-flow-requires c κs =
     let e = c.before.before in
     let s = start (answer e) in
-    (units_long (given s) (filled (answer e)) (end e), cells_few (given s), s.pre.3)
+    (units_long (given s) (filled (answer e)) (end e), cells_few (given s), s.requires.3)
 
-reply-of-requires : tie.Need-reply-of-requires
+reply-of-requires : tie.Need-reply_of-requires
 reply-of-requires c κs =
     let e = c.before.before.before.before.before in
-    let s = start (answer e) in
-    (s.pre.1, s.pre.2, (end e).placed_bound, (end e).lifted_bound)
+    let s = start (answer e.before) in
+    (s.requires.1, s.requires.2, (end e.before).placed_bound, (end e.before).lifted_bound)
 
-returns-2 : tie.Need-returns-2
+returns-2 : tie.Need-returns
 returns-2 c =
     let e = c.before.before.before.before.before.before in
-    answered (given (start (answer e))) (filled (answer e)) (end e) c.reply-of.result _
-    c.reply-of.ensures c.before.before.before.write-flow.ensures
+    answered (given (start (answer e.before))) (filled (answer e.before)) (end e.before) c.reply_of.result _
+    c.reply_of.ensures c.write_flow.ensures
 
-pub find-then-run-spec : {M : Type 1} → statement M
-find-then-run-spec =
+pub find_then_run_spec : {M : Type 1} → statement M
+find_then_run_spec =
     tie.close
     (tie.spec
     fill-requires

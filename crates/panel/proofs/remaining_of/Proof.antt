@@ -6,9 +6,9 @@ use Rattle.panel.proofs.remaining_of.Tie as tie
 returns : tie.Need-returns
 returns c =
     record {
-      left_at = c.before.before.before.before.lots-into.ensures;
-      lacks_at = c.before.amounts-into.ensures;
+      left_at = c.lots_into.ensures;
+      lacks_at = c.amounts_into.ensures;
     }
 
-pub remaining-of-spec : {M : Type 1} → statement M
-remaining-of-spec = tie.close (tie.spec (λ c. search rules) (λ c κs. search rules) (λ c. search rules) (λ c κs. search rules) returns)
+pub remaining_of_spec : {M : Type 1} → statement M
+remaining_of_spec = tie.close (tie.spec (λ c. search rules) (λ c κs. search rules) (λ c. search rules) (λ c κs. search rules) returns)

@@ -13,5 +13,5 @@ reply-requires c κs =
     let calls-long : length s.args.remaining.calls ≡ 8 = search rules in
     (omega arith, omega arith, omega arith, omega arith)
 
-pub reply-of-spec : {M : Type 1} → statement M
-reply-of-spec = tie.close (tie.spec (λ c. search rules) (λ c. search rules) reply-requires (λ c. search rules))
+pub reply_of_spec : {M : Type 1} → statement M
+reply_of_spec = tie.close (tie.spec (λ c. search rules) (λ c. search rules) reply-requires (λ c. search rules))

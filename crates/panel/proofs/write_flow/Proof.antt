@@ -21,29 +21,29 @@ copied_more src d k hs hd =
     ∙ set-append_seam (take k src) (get_or d k 0) (drop (suc k) d) v
     ∙ rw (add-one, take-suc src k 0, append_assoc))
 
-abbrev invariant-loop : tie.invariant-loop
+abbrev invariant-loop : tie.invariant-loop-k
 invariant-loop units cells flow₀ k₀ flow k = (k ≤ cells) × (flow ≡ take k units ++ drop k flow₀) × (length flow ≡ length flow₀)
 
-abbrev decreases-loop : tie.decreases-loop
+abbrev decreases-loop : tie.decreases-loop-k
 decreases-loop units cells flow₀ k₀ flow k = cells - k
 
-loop-holds : tie.Need-loop-init invariant-loop decreases-loop
+loop-holds : tie.Need-loop-k-init invariant-loop decreases-loop
 loop-holds c = (omega arith, refl, refl)
 
-loop-again : tie.Need-loop-preserved invariant-loop decreases-loop
+loop-again : tie.Need-loop-k-preserved invariant-loop decreases-loop
 loop-again c =
     let l = c.before.before in
-    let s = l.before.args in (
+    let s = l.args in (
       omega arith,
-      rw l.loop.invariant.1 (copied_more s.units.now s.flow.now l.loop.k (omega (arith, l.before.requires.0)) (omega arith)),
-      simp length-set l.loop.invariant.2,
+      rw l.loop-k.invariant.1 (copied_more s.units.now s.flow-1.now l.loop-k.k (omega (arith, l.requires.0)) (omega arith)),
+      simp length-set l.loop-k.invariant.2,
     )
 
 returns : tie.Need-returns invariant-loop decreases-loop
-returns c = let e : c.before.loop.k ≡ c.before.before.args.cells = omega arith in rw e at c.before.loop.invariant.1
+returns c = let e : c.loop-k.k ≡ c.args.cells = omega arith in rw e at c.loop-k.invariant.1
 
-pub write-flow-spec : {M : Type 1} → statement M
-write-flow-spec =
+pub write_flow_spec : {M : Type 1} → statement M
+write_flow_spec =
     tie.close
     (tie.spec
     invariant-loop

@@ -17,49 +17,49 @@ use Rattle.placer.proofs.find_and_run_idle.Statement.{statement}
 use Rattle.placer.proofs.find_and_run_idle.Tie as tie
 
 -- the amounts are read with their book
-module _ (c : tie.After-known-told) where
+module _ (c : tie.In-Are) where
   abbrev start : tie.Start
-  start = c.before.before.before.before.before.before.before
+  start = c.before.before.before.before.before
 
   abbrev size : Size
-  size = record { lots = c.before.counts.given.0.0; calls = c.before.counts.given.0.1.0 }
+  size = record { lots = c.in-Are.n; calls = c.in-Are.m }
 
   abbrev lent : List ℕ
   lent = start.args.flow.now
 
   read : read_amounts start.args.book.now start.args.amounts.now ≡ gives size
-  read = sym c.before.before.before.read-amounts.ensures ∙ ap stated_counts c.before.counts.given.1
+  read = sym c.read_amounts-counts.ensures ∙ ap stated_counts c.in-Are.is
 
   book_read : read_book start.args.book.now ≡ gives size
   book_read = book_of_amounts _ _ size read
 
-returns : tie.Need-returns
+returns : tie.Need-returns-in_default
 unfolding find_and_run_idle find_and_run_idle_flow found_to_run_idle
 returns c =
-    simp (c.refusal-of.ensures, c.before.enum_told.given.1, sym c.before.before.before.read-amounts.ensures)
+    simp (c.refusal_of.ensures, c.in_default.is, sym c.read_amounts-counts.ensures)
     (refl, search rules)
 
-remaining-of-requires : tie.Need-remaining-of-requires
+remaining-of-requires : tie.Need-remaining_of-real-requires
 remaining-of-requires c κs = can_load _ (size c) (book_read c) _ (read c)
 
-total-requires : tie.Need-total-requires
+total-requires : tie.Need-total-stock-requires
 total-requires c κs =
     let r = c.before.before in
     let k = r.before in
-    ((sizes_within _ (size k) (book_read k)).0, lots_fit _ (size k) (book_read k) _ (read k) r.remaining-of.ensures)
+    ((sizes_within _ (size k) (book_read k)).0, lots_fit _ (size k) (book_read k) _ (read k) r.remaining_of-real.ensures)
 
-total-requires-2 : tie.Need-total-requires-2
+total-requires-2 : tie.Need-total-wanted-requires
 total-requires-2 c κs =
     let r = c.before.before.before in
     let k = r.before in
-    ((sizes_within _ (size k) (book_read k)).1, calls_fit _ (size k) (book_read k) _ (read k) r.remaining-of.ensures)
+    ((sizes_within _ (size k) (book_read k)).1, calls_fit _ (size k) (book_read k) _ (read k) r.remaining_of-real.ensures)
 
 -- the totals are known
-module _ (c : tie.After-total2) where
-  abbrev loaded : tie.After-remaining-of
+module _ (c : tie.After-total-wanted) where
+  abbrev loaded : tie.After-remaining_of-real
   loaded = c.before.before.before.before
 
-  abbrev told : tie.After-known-told
+  abbrev told : tie.In-Are
   told = loaded.before
 
   abbrev args : tie.Start
@@ -71,55 +71,55 @@ module _ (c : tie.After-total2) where
   abbrev amounts : List ℕ
   amounts = args.args.amounts.now
 
-  totals : (c.before.total.result ≡ lots_total book amounts) × (c.total2.result ≡ calls_total book amounts)
+  totals : (c.total-stock.result ≡ lots_total book amounts) × (c.total-wanted.result ≡ calls_total book amounts)
   totals =
-      let held = totals_are _ (size told) (book_read told) _ (read told) loaded.remaining-of.ensures in
-      (c.before.total.ensures ∙ held.0, c.total2.ensures ∙ held.1)
+      let held = totals_are _ (size told) (book_read told) _ (read told) loaded.remaining_of-real.ensures in
+      (c.total-stock.ensures ∙ held.0, c.total-wanted.ensures ∙ held.1)
 
-  spare-is : c.before.total.result - c.total2.result ≡ idle_amount (problem_of book) (lot_amount amounts) (call_amount book amounts)
+  spare-is : c.total-stock.result - c.total-wanted.result ≡ idle_amount (problem_of book) (lot_amount amounts) (call_amount book amounts)
   spare-is = ap₂ ◌-◌ totals.0 totals.1
 
-  calls_is : (size told).calls ≡ book_calls book
+  calls_is : (size told).calls-1 ≡ book_calls book
   unfolding problem_of
   calls_is = calls_are _ (size told) (book_read told)
 
-returns-2 : tie.Need-returns-2
+returns-2 : tie.Need-returns-then-stock-wanted
 returns-2 c =
     let t = c.before in
-    refused_by_18 _ _ _ (size (told t)) (read (told t)) (omega (arith, totals t, c.if1.true))
+    refused_by_18 _ _ _ (size (told t)) (read (told t)) (omega (arith, totals t, c.if-stock-wanted.true))
 
-returns-3 : tie.Need-returns-3
+returns-3 : tie.Need-returns-then-m-eq32
 returns-3 c =
     let t = c.before.before in
-    refused_by_19 _ _ _ (size (told t)) (read (told t)) (omega (arith, totals t, c.before.if1.false))
-    (omega (arith, calls_is t, c.if2.true))
+    refused_by_19 _ _ _ (size (told t)) (read (told t)) (omega (arith, totals t, c.if-stock-wanted.false))
+    (omega (arith, calls_is t, c.if-m-eq32.true))
 
-with-idle-requires : tie.Need-with-idle-requires
+with-idle-requires : tie.Need-with_idle-enlarged-requires
 with-idle-requires c κs =
     let t = c.before.before in
     let few = sizes_within _ (size (told t)) (book_read (told t)) in
     omega arith
 
-find-then-run-requires : tie.Need-find-then-run-requires
+find-then-run-requires : tie.Need-find_then_run-requires
 find-then-run-requires c κs =
     let t = c.before.before.before.before in
     let k = told t in
     let few = sizes_within _ (size k) (book_read k) in
-    let held = c.before.with-idle.ensures (size k).lots _ _ (loaded t).remaining-of.ensures in
+    let held = c.with_idle-enlarged.ensures (size k).lots-1 _ _ (loaded t).remaining_of-real.ensures in
     record { reads = book_read k; room = λ _. omega arith; fits = lots_fit _ (size k) (book_read k) _ (read k) held }
 
-returns-4 : tie.Need-returns-4
+returns-4 : tie.Need-returns
 returns-4 c =
     let w = c.before.before.before.before in
     let t = w.before.before.before in
     let k = told t in
-    let held = idle_held _ _ (lent k) (size k) (read k) (book_read k) (loaded t).remaining-of.ensures w.with-idle.ensures (spare-is t) in
-    let placed = c.before.before.find-then-run.ensures _ _ held in
+    let held = idle_held _ _ (lent k) (size k) (read k) (book_read k) (loaded t).remaining_of-real.ensures w.with_idle-enlarged.ensures (spare-is t) in
+    let placed = c.find_then_run.ensures _ _ held in
     let same = idle_is _ _ (lent k) (size k) (read k) (omega (arith, totals t)) (λ e. omega (arith, calls_is t)) in
     (placed.0 ∙ sym same.0, placed.1 ∙ sym same.1)
 
-pub find-and-run-idle-spec : {M : Type 1} → statement M
-find-and-run-idle-spec =
+pub find_and_run_idle_spec : {M : Type 1} → statement M
+find_and_run_idle_spec =
     tie.close
     (tie.spec
     (λ c κs. search rules) (λ c. search rules) (λ c. search rules) (λ c κs. search rules)

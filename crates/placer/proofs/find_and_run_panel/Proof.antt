@@ -7,25 +7,25 @@ use Rattle.placer.proofs.Placing.{panel_few}
 use Rattle.placer.proofs.find_and_run_panel.Statement.{statement}
 use Rattle.placer.proofs.find_and_run_panel.Tie as tie
 
-returns : tie.Need-returns
+returns : tie.Need-returns-in_default
 unfolding find_and_run_panel find_and_run_panel_flow
 returns c =
-    simp (c.refusal-of.ensures, c.before.enum-told2.given.1, sym c.before.before.before.read-panel.ensures)
+    simp (c.refusal_of.ensures, c.in_default.is, sym c.read_panel-panel.ensures)
     (refl, search rules)
 
-find-and-run-within-requires : tie.Need-find-and-run-within-requires
+find-and-run-within-requires : tie.Need-find_and_run_within-requires
 find-and-run-within-requires c κs =
     let k = c.before in
-    panel_few _ _ (sym k.before.before.read-panel.ensures ∙ ap stated_counts k.enum_told.given.1)
+    panel_few _ _ (sym k.read_panel-panel.ensures ∙ ap stated_counts k.in-Are.is)
 
-returns-2 : tie.Need-returns-2
+returns-2 : tie.Need-returns
 unfolding find_and_run_panel find_and_run_panel_flow
 returns-2 c =
     let k = c.before.before.before.before in
-    simp (sym k.before.before.read-panel.ensures ∙ ap stated_counts k.enum_told.given.1) c.before.before.find_and_run_within.ensures
+    simp (sym k.read_panel-panel.ensures ∙ ap stated_counts k.in-Are.is) c.find_and_run_within.ensures
 
-pub find-and-run-panel-spec : {M : Type 1} → statement M
-find-and-run-panel-spec =
+pub find_and_run_panel_spec : {M : Type 1} → statement M
+find_and_run_panel_spec =
     tie.close
     (tie.spec
     (λ c κs. search rules) (λ c. search rules) (λ c. search rules) (λ c κs. search rules)

@@ -17,15 +17,15 @@ use Rattle.placer.proofs.find_and_run_within.Statement.{statement}
 use Rattle.placer.proofs.find_and_run_within.Tie as tie
 
 -- the amounts are read with their book
-module _ (c : tie.After-known-told) where
+module _ (c : tie.In-Are) where
   abbrev start : tie.Start
-  start = c.before.before.before.before.before.before.before
+  start = c.before.before.before.before.before
 
   abbrev size : Size
-  size = record { lots = c.before.counts.given.0.0; calls = c.before.counts.given.0.1.0 }
+  size = record { lots = c.in-Are.n; calls = c.in-Are.m }
 
   read : read_amounts start.args.book.now start.args.amounts.now ≡ gives size
-  read = sym c.before.before.before.read-amounts.ensures ∙ ap stated_counts c.before.counts.given.1
+  read = sym c.read_amounts-counts.ensures ∙ ap stated_counts c.in-Are.is
 
   book_read : read_book start.args.book.now ≡ gives size
   book_read = book_of_amounts _ _ size read
@@ -33,34 +33,34 @@ module _ (c : tie.After-known-told) where
   few : (size.lots ≤ 8) × (size.calls ≤ 8)
   few =
       let known = counts_are start.args.book.now (sym book_read) in
-      (omega (arith, known.lots_is, start.pre.0), omega (arith, known.calls_is, start.pre.1))
+      (omega (arith, known.lots_is, start.requires.0), omega (arith, known.calls_is, start.requires.1))
 
-returns : tie.Need-returns
+returns : tie.Need-returns-in_default
 unfolding find_and_run find_and_run_flow found_to_run
 returns c =
-    simp (c.refusal-of.ensures, c.before.enum_told.given.1, sym c.before.before.before.read-amounts.ensures)
+    simp (c.refusal_of.ensures, c.in_default.is, sym c.read_amounts-counts.ensures)
     (refl, search rules)
 
-mul-if1 : tie.Need-overflow-mul-if1
+mul-if1 : tie.Need-overflow_mul-n
 mul-if1 c = omega (arith, mul-le-mul {n₂ = 8} (few c).0 (few c).1)
 
-returns-2 : tie.Need-returns-2
+returns-2 : tie.Need-returns-then-flow-n
 returns-2 c =
     let k = c.before in
     let s = (start k).args in
-    let few-entries = too_short _ (size k) (book_read k) s.flow.now c.if1.true in
-    let short = places_17 s.book.now (problem_of s.book.now) _ _ s.flow.now few-entries in
-    let same = plain_is _ _ s.flow.now (size k) (read k) in
+    let few-entries = too_short _ (size k) (book_read k) s.flow-1.now c.if-flow-n.true in
+    let short = places_17 s.book.now (problem_of s.book.now) _ _ s.flow-1.now few-entries in
+    let same = plain_is _ _ s.flow-1.now (size k) (read k) in
     (short.0 ∙ sym same.0, short.1 ∙ sym same.1)
 
-find-then-run-requires : tie.Need-find-then-run-requires
-find-then-run-requires c κs = let k = c.before.before in (read k, (few k).0, (few k).1, c.before.if1.false)
+find-then-run-requires : tie.Need-find_then_run-requires
+find-then-run-requires c κs = let k = c.before.before in (read k, (few k).0, (few k).1, c.if-flow-n.false)
 
-returns-3 : tie.Need-returns-3
-returns-3 c = c.before.before.find-then-run.ensures
+returns-3 : tie.Need-returns
+returns-3 c = c.find_then_run.ensures
 
-pub find-and-run-within-spec : {M : Type 1} → statement M
-find-and-run-within-spec =
+pub find_and_run_within_spec : {M : Type 1} → statement M
+find_and_run_within_spec =
     tie.close
     (tie.spec
     (λ c κs. search rules) (λ c. search rules) (λ c. search rules) (λ c κs. search rules)

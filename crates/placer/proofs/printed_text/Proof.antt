@@ -6,13 +6,13 @@ use Rattle.placer.proofs.Printing.{counts_fit, prints}
 use Rattle.placer.proofs.printed_text.Statement.{statement}
 use Rattle.placer.proofs.printed_text.Tie as tie
 
-render-requires : tie.Need-render-requires
+render-requires : tie.Need-render-length-requires
 render-requires c κs =
     let lots = c.before.before.before in
     let ran = lots.before.before in (
       λ o given.
           let few = counts_fit _ _ _ ran.by_find_and_run.result ran.by_find_and_run.ensures.0 o given in
-          (omega (arith, lots.u8-at.ensures, few.0), omega (arith, c.before.before.u8-at2.ensures, few.1)),
+          (omega (arith, lots.u8_at-lots.ensures, few.0), omega (arith, c.u8_at-calls.ensures, few.1)),
       omega arith,
     )
 
@@ -22,11 +22,11 @@ returns c =
     let calls = done.before.before.before in
     let lots = calls.before in
     let ran = lots.before.before in
-    prints _ _ _ _ _ _ _ _ _ _ _ _ ran.before.before.before.at_most.ensures ran.before.before.at-most2.ensures refl refl
-    ran.by_find_and_run.ensures.0 ran.by_find_and_run.ensures.1 lots.u8-at.ensures calls.u8-at2.ensures done.render.ensures
+    prints _ _ _ _ _ _ _ _ _ _ _ _ ran.at_most-book.ensures ran.at_most.ensures refl refl
+    ran.by_find_and_run.ensures.0 ran.by_find_and_run.ensures.1 lots.u8_at-lots.ensures calls.u8_at-calls.ensures done.render-length.ensures
 
-pub printed-text-spec : {M : Type 1} → statement M
-printed-text-spec =
+pub printed_text_spec : {M : Type 1} → statement M
+printed_text_spec =
     tie.close
     (tie.spec
     (λ c κs. search rules) (λ c κs. search rules) (λ c. search rules) (λ c κs. search rules) (λ c κs. search rules) (λ c. search rules)

@@ -9,46 +9,46 @@ use Rattle.specification.specs.Panel.{read_panel}
 use Rattle.placer.proofs.read_panel.Statement.{statement}
 use Rattle.placer.proofs.read_panel.Tie as tie
 
-module _ (c : tie.After-known-told) where
+module _ (c : tie.In-Are) where
   abbrev book : List ℕ
-  book = c.before.before.before.before.before.args.book.now
+  book = c.args.book.now
 
   abbrev size : Size
-  size = record { lots = c.before.head.given.0.0; calls = c.before.head.given.0.1.0 }
+  size = record { lots = c.in-Are.lots; calls = c.in-Are.calls }
 
   head-is : read_head book ≡ gives size
-  head-is = sym c.before.before.before.read_head.ensures ∙ ap stated_counts c.before.head.given.1
+  head-is = sym c.read_head-head.ensures ∙ ap stated_counts c.in-Are.is
 
-returns : tie.Need-returns
+returns : tie.Need-returns-in_default
 unfolding read_panel
-returns c = simp (c.enum_told.given.1, sym c.before.before.read_head.ensures)
+returns c = simp (c.in_default.is, sym c.read_head-head.ensures)
 
-returns-2 : tie.Need-returns-2
+returns-2 : tie.Need-returns-then-is_above_eight
 unfolding read_panel
-returns-2 c = simp (head-is c.before.before, sym c.before.is-above-eight.ensures ∙ c.if1.true)
+returns-2 c = simp (head-is c.before.before, sym c.is_above_eight.ensures ∙ c.if-is_above_eight.true)
 
-returns-3 : tie.Need-returns-3
+returns-3 : tie.Need-returns-then-is_above_eight-2
 unfolding read_panel
 returns-3 c =
     let l = c.before.before in
     simp (
       head-is l.before.before,
-      sym l.before.is-above-eight.ensures ∙ l.if1.false,
-      sym c.before.is-above-eight2.ensures ∙ c.if2.true,
+      sym l.is_above_eight.ensures ∙ l.if-is_above_eight.false,
+      sym c.is_above_eight-2.ensures ∙ c.if-is_above_eight-2.true,
     )
 
-returns-4 : tie.Need-returns-4
+returns-4 : tie.Need-returns
 unfolding read_panel
 returns-4 c =
     let l = c.before.before in
     simp (
       head-is l.before.before,
-      sym l.before.is-above-eight.ensures ∙ l.if1.false,
-      sym c.before.is-above-eight2.ensures ∙ c.if2.false,
+      sym l.is_above_eight.ensures ∙ l.if-is_above_eight.false,
+      sym c.is_above_eight-2.ensures ∙ c.if-is_above_eight-2.false,
     )
 
-pub read-panel-spec : {M : Type 1} → statement M
-read-panel-spec =
+pub read_panel_spec : {M : Type 1} → statement M
+read_panel_spec =
     tie.close
     (tie.spec
     (λ c κs. search rules) (λ c. search rules) (λ c. search rules)

@@ -5,8 +5,8 @@ use Rattle.answers.specs.Answers.{answer_of, placed}
 use Rattle.placer_c.proofs.placer_find_and_run.Statement.{statement}
 use Rattle.placer_c.proofs.placer_find_and_run.Tie as tie
 
-pub placer-find-and-run-spec : {M : Type 1} → statement M
-placer-find-and-run-spec =
+pub placer_find_and_run_spec : {M : Type 1} → statement M
+placer_find_and_run_spec =
     tie.close
     (tie.spec
     (λ c κs. search rules) (λ c κs. search rules) (λ c. search rules)

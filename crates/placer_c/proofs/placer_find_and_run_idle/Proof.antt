@@ -5,8 +5,8 @@ use Rattle.answers.specs.Answers.{answer_of, placed}
 use Rattle.placer_c.proofs.placer_find_and_run_idle.Statement.{statement}
 use Rattle.placer_c.proofs.placer_find_and_run_idle.Tie as tie
 
-pub placer-find-and-run-idle-spec : {M : Type 1} → statement M
-placer-find-and-run-idle-spec =
+pub placer_find_and_run_idle_spec : {M : Type 1} → statement M
+placer_find_and_run_idle_spec =
     tie.close
     (tie.spec
     (λ c κs. search rules) (λ c κs. search rules) (λ c. search rules)

@@ -5,8 +5,8 @@ use Rattle.answers.specs.Answers.{answer_of, placed}
 use Rattle.placer_c.proofs.placer_find_and_run_panel.Statement.{statement}
 use Rattle.placer_c.proofs.placer_find_and_run_panel.Tie as tie
 
-pub placer-find-and-run-panel-spec : {M : Type 1} → statement M
-placer-find-and-run-panel-spec =
+pub placer_find_and_run_panel_spec : {M : Type 1} → statement M
+placer_find_and_run_panel_spec =
     tie.close
     (tie.spec
     (λ c κs. search rules) (λ c κs. search rules) (λ c. search rules)

@@ -5,8 +5,8 @@ use Rattle.answers.specs.Answers.{answer_of, cost_of}
 use Rattle.placer_c.proofs.placer_pair_cost.Statement.{statement}
 use Rattle.placer_c.proofs.placer_pair_cost.Tie as tie
 
-pub placer-pair-cost-spec : {M : Type 1} → statement M
-placer-pair-cost-spec =
+pub placer_pair_cost_spec : {M : Type 1} → statement M
+placer_pair_cost_spec =
     tie.close
     (tie.spec
     (λ c κs. search rules) (λ c κs. search rules)

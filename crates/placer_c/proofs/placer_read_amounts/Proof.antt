@@ -5,9 +5,9 @@ use Rattle.answers.specs.Answers.{answer_of, counts}
 use Rattle.placer_c.proofs.placer_read_amounts.Statement.{statement}
 use Rattle.placer_c.proofs.placer_read_amounts.Tie as tie
 
-pub placer-read-amounts-spec : {M : Type 1} → statement M
-placer-read-amounts-spec =
+pub placer_read_amounts_spec : {M : Type 1} → statement M
+placer_read_amounts_spec =
     tie.close
     (tie.spec
     (λ c κs. search rules) (λ c κs. search rules)
-    (λ c. c.counts.ensures ∙ ap (answer_of counts) c.before.read-amounts.ensures))
+    (λ c. c.counts.ensures ∙ ap (answer_of counts) c.read_amounts.ensures))

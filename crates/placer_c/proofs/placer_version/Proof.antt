@@ -3,5 +3,5 @@ use mathlib.Core.Path.{refl}
 use Rattle.placer_c.proofs.placer_version.Statement.{statement}
 use Rattle.placer_c.proofs.placer_version.Tie as tie
 
-pub placer-version-spec : {M : Type 1} → statement M
-placer-version-spec = tie.close (tie.spec (λ c. refl))
+pub placer_version_spec : {M : Type 1} → statement M
+placer_version_spec = tie.close (tie.spec (λ c. refl))

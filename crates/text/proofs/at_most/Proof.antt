@@ -7,11 +7,11 @@ use lib.Seq.{take_all}
 use Rattle.text.proofs.at_most.Statement.{statement}
 use Rattle.text.proofs.at_most.Tie as tie
 
-returns : tie.Need-returns
-returns c = let e : c.before.before.args.most - 0 ≡ c.before.before.args.most = omega arith in rw e
+returns : tie.Need-returns-then-most-file
+returns c = let e : c.args.most - 0 ≡ c.args.most = omega arith in rw e
 
-returns-2 : tie.Need-returns-2
-returns-2 c = sym (take_all _ _ c.if1.false)
+returns-2 : tie.Need-returns
+returns-2 c = sym (take_all _ _ c.if-most-file.false)
 
-pub at-most-spec : {M : Type 1} → statement M
-at-most-spec = tie.close (tie.spec (λ c. search rules) (λ c. search rules) (λ c. search rules) returns returns-2)
+pub at_most_spec : {M : Type 1} → statement M
+at_most_spec = tie.close (tie.spec (λ c. search rules) (λ c. search rules) (λ c. search rules) returns returns-2)

@@ -10,10 +10,10 @@ returns : tie.Need-returns
 returns c =
     let s = c.before.before.before.before.before.before.before.before.before.before.before.before in
     file_written s.args.count s.args.pairs.now _ _ _ s.requires.0 s.requires.1 (omega (arith, s.requires.2))
-    c.before.before.before.before.before.before.before.write-opening.ensures (rw sub-zero at c.before.before.copy.ensures.1)
+    c.write_opening.ensures (rw sub-zero at c.before.before.copy.ensures.1)
 
-pub write-order-spec : {M : Type 1} → statement M
-write-order-spec =
+pub write_order_spec : {M : Type 1} → statement M
+write_order_spec =
     tie.close
     (tie.spec
     (λ c. search rules)

@@ -8,22 +8,22 @@ use Rattle.panel.proofs.Words.{free_none, free_more}
 use Rattle.panel.proofs.search.free_calls.Statement.{statement}
 use Rattle.panel.proofs.search.free_calls.Tie as tie
 
-abbrev invariant-loop : tie.invariant-loop
+abbrev invariant-loop : tie.invariant-loop-k
 invariant-loop lefts least i free₀ k₀ free k = (k ≤ 8) × FreeCalls lefts least i k free
 
-abbrev decreases-loop : tie.decreases-loop
+abbrev decreases-loop : tie.decreases-loop-k
 decreases-loop lefts least i free₀ k₀ free k = 8 - k
 
-loop-again : tie.Need-loop-preserved invariant-loop decreases-loop
+loop-again : tie.Need-loop-k-preserved invariant-loop decreases-loop
 loop-again c =
-    let loop = c.before.before.before.before.before.loop in
-    (omega arith, free_more _ _ _ loop.k loop.free _ _ loop.invariant.1 c.before.minus.ensures c.minus2.ensures)
+    let loop = c.loop-k in
+    (omega arith, free_more _ _ _ loop.k loop.free-1 _ _ loop.invariant.1 c.minus.ensures c.minus-free.ensures)
 
 returns : tie.Need-returns invariant-loop decreases-loop
-returns c = let e : c.before.loop.k ≡ 8 = omega arith in rw e at c.before.loop.invariant.1
+returns c = let e : c.loop-k.k ≡ 8 = omega arith in rw e at c.loop-k.invariant.1
 
-pub free-calls-spec : {M : Type 1} → statement M
-free-calls-spec =
+pub free_calls_spec : {M : Type 1} → statement M
+free_calls_spec =
     tie.close
     (tie.spec
     invariant-loop

@@ -8,5 +8,5 @@ use mathlib.Core.Path.{◌∙◌}
 use Rattle.panel.proofs.search.mark_of.Statement.{statement}
 use Rattle.panel.proofs.search.mark_of.Tie as tie
 
-pub mark-of-spec : {M : Type 1} → statement M
-mark-of-spec = tie.close (tie.spec (λ c. search rules) (λ c. search rules) (λ c. shl_exact 1 _ 8 (lit< tt) (omega arith) ∙ one-mul _))
+pub mark_of_spec : {M : Type 1} → statement M
+mark_of_spec = tie.close (tie.spec (λ c. search rules) (λ c. search rules) (λ c. shl_exact 1 _ 8 (lit< tt) (omega arith) ∙ one-mul _))

@@ -11,10 +11,10 @@ use Rattle.panel.specs.Search.{is_taken}
 use Rattle.panel.proofs.search.taken_calls.Statement.{statement}
 use Rattle.panel.proofs.search.taken_calls.Tie as tie
 
-abbrev invariant-loop : tie.invariant-loop
+abbrev invariant-loop : tie.invariant-loop-l
 invariant-loop taken i calls₀ l₀ calls l = (l ≤ 8) × Begins (is_taken taken i) l calls
 
-abbrev decreases-loop : tie.decreases-loop
+abbrev decreases-loop : tie.decreases-loop-l
 decreases-loop taken i calls₀ l₀ calls l = 8 - l
 
 -- a mark joins the word
@@ -25,18 +25,18 @@ joined {calls} {mark} {l = l} e off own = record {
   others = λ x d. e.each x ∙ rw (false_of (bit mark x) (λ t. d (own x t))) (or-false (bit calls x));
 }
 
-loop-again : tie.Need-loop-preserved invariant-loop decreases-loop
+loop-again : tie.Need-loop-l-preserved invariant-loop decreases-loop
 loop-again c =
     let top = c.before.before.before.before in
-    let l = top.loop.l in
-    let word = c.before.word_of.ensures in (
+    let l = top.loop-l.l in
+    let word = c.word_of.ensures in (
       omega arith,
-      begins_more _ _ _ _ top.loop.invariant.1 (rw word at (joined c.either.ensures (top.loop.invariant.1.none l (omega arith))
-          (λ x t. top.before.requires.1 l x (omega arith) (sym (ap (λ (w : ℕ). bit w x) word) ∙ t)))),
+      begins_more _ _ _ _ top.loop-l.invariant.1 (rw word at (joined c.either-calls.ensures (top.loop-l.invariant.1.none l (omega arith))
+          (λ x t. top.requires.1 l x (omega arith) (sym (ap (λ (w : ℕ). bit w x) word) ∙ t)))),
     )
 
-pub taken-calls-spec : {M : Type 1} → statement M
-taken-calls-spec =
+pub taken_calls_spec : {M : Type 1} → statement M
+taken_calls_spec =
     tie.close
     (tie.spec
     invariant-loop
@@ -47,4 +47,4 @@ taken-calls-spec =
     (λ c κs. tt)
     (λ c. omega arith) (λ c. omega arith)
     loop-again
-    (λ c. let e : c.before.loop.l ≡ 8 = omega arith in rw e at c.before.loop.invariant.1))
+    (λ c. let e : c.loop-l.l ≡ 8 = omega arith in rw e at c.loop-l.invariant.1))

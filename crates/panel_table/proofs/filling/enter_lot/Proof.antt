@@ -7,67 +7,67 @@ use Rattle.panel_table.proofs.Entering.{Entering, lot_few, row_in, word_is, ente
 use Rattle.panel_table.proofs.filling.enter_lot.Statement.{statement}
 use Rattle.panel_table.proofs.filling.enter_lot.Tie as tie
 
-abbrev invariant-loop : tie.invariant-loop
+abbrev invariant-loop : tie.invariant-loop-calls
 invariant-loop book slacks₀ i at word calls₀ slacks calls = Entering book i calls slacks
 
-abbrev decreases-loop : tie.decreases-loop
+abbrev decreases-loop : tie.decreases-loop-calls
 decreases-loop book slacks₀ i at word calls₀ slacks calls = calls
 
-row-at-requires : tie.Need-row-at-requires invariant-loop decreases-loop
-row-at-requires c κs = let p = c.before.requires in (p.0.is_readable, p.1)
+row-at-requires : tie.Need-row_at-at-requires invariant-loop decreases-loop
+row-at-requires c κs = let p = c.requires in (p.0.is_readable, p.1)
 
-cost-at-requires : tie.Need-cost-at-requires invariant-loop decreases-loop
-cost-at-requires c κs = let p = c.before.before.requires in omega (arith, c.row_at.ensures, row_in p.0 p.1)
+cost-at-requires : tie.Need-cost_at-word-requires invariant-loop decreases-loop
+cost-at-requires c κs = let p = c.requires in omega (arith, c.row_at-at.ensures, row_in p.0 p.1)
 
-loop-holds : tie.Need-loop-init invariant-loop decreases-loop
+loop-holds : tie.Need-loop-calls-init invariant-loop decreases-loop
 loop-holds c =
-    let p = c.before.before.before.requires in
-    rw (c.cost_at.ensures, c.before.row_at.ensures, word_is p.0 p.1) (entering_none p.0 p.1 p.2)
+    let p = c.requires in
+    rw (c.cost_at-word.ensures, c.row_at-at.ensures, word_is p.0 p.1) (entering_none p.0 p.1 p.2)
 
 -- the lowest call still to come
-module _ (c : tie.After-lowest invariant-loop decreases-loop) where
+module _ (c : tie.After-lowest-j invariant-loop decreases-loop) where
   abbrev start : tie.Start invariant-loop decreases-loop
   start = c.before.before.before.before.before.before
 
-  few : (start.args.lot.0 < 8) × (c.lowest.result < 8)
+  few : (start.args.lot.0 < 8) × (c.lowest-j.result < 8)
   few =
-      let p = start.pre in
-      (lot_few p.0 p.1, call_few p.0 p.1 c.before.before.loop.invariant _ c.lowest.ensures.0.is_in)
+      let p = start.requires in
+      (lot_few p.0 p.1, call_few p.0 p.1 c.loop-calls.invariant _ c.lowest-j.ensures.0.is_in)
 
-cost-from-requires : tie.Need-cost-from-requires invariant-loop decreases-loop
+cost-from-requires : tie.Need-cost_from-requires invariant-loop decreases-loop
 cost-from-requires c κs =
     let p = (start c).requires in
-    omega (arith, c.before.before.before.before.row_at.ensures, row_in p.0 p.1)
+    omega (arith, c.row_at-at.ensures, row_in p.0 p.1)
 
-sub-slacks : tie.Need-overflow-sub-slacks invariant-loop decreases-loop
+sub-slacks : tie.Need-overflow_sub-slacks invariant-loop decreases-loop
 sub-slacks c =
     let t = c.before in
     let p = (start t).requires in
-    rw (c.cost-from.ensures, t.before.before.before.before.row_at.ensures)
-    (omega (arith, cost_low p.0 p.1 t.before.before.loop.invariant _ t.lowest.ensures.0.is_in))
+    rw (c.cost_from.ensures, t.row_at-at.ensures)
+    (omega (arith, cost_low p.0 p.1 t.loop-calls.invariant _ t.lowest-j.ensures.0.is_in))
 
-loop-less : tie.Need-loop-smaller invariant-loop decreases-loop
-loop-less c = c.without.ensures.lower c.before.before.lowest.ensures.0.is_in
+loop-less : tie.Need-loop-calls-smaller invariant-loop decreases-loop
+loop-less c = c.without-calls.ensures.lower c.lowest-j.ensures.0.is_in
 
-loop-again : tie.Need-loop-preserved invariant-loop decreases-loop
+loop-again : tie.Need-loop-calls-preserved invariant-loop decreases-loop
 loop-again c =
     let t = c.before.before in
-    let p = (start t).requires in
-    rw (c.before.cost-from.ensures, t.before.before.before.before.row_at.ensures)
-    (entering_one p.0 p.1 t.before.before.loop.invariant _ t.lowest.ensures.0.is_in c.without.ensures)
+    let p = (start t.before).requires in
+    rw (c.cost_from.ensures, t.row_at-at.ensures)
+    (entering_one p.0 p.1 t.loop-calls.invariant _ t.lowest-j.ensures.0.is_in c.without-calls.ensures)
 
 returns : tie.Need-returns invariant-loop decreases-loop
 returns c =
     let l = c.before in
     let s = l.before.before.before.before in
     let p = s.requires in
-    let e : l.loop.calls ≡ 0 = omega (arith, c.loop-test.false) in (
-      entering_all p.0 p.1 (rw e at l.loop.invariant),
-      l.before.cost_at.ensures ∙ rw l.before.before.row_at.ensures (word_is p.0 p.1),
+    let e : l.loop-calls.calls ≡ 0 = omega (arith, c.loop-calls-test.false) in (
+      entering_all p.0 p.1 (rw e at l.loop-calls.invariant),
+      l.cost_at-word.ensures ∙ rw l.row_at-at.ensures (word_is p.0 p.1),
     )
 
-pub enter-lot-spec : {M : Type 1} → statement M
-enter-lot-spec =
+pub enter_lot_spec : {M : Type 1} → statement M
+enter_lot_spec =
     tie.close
     (tie.spec
     invariant-loop
@@ -75,14 +75,14 @@ enter-lot-spec =
     row-at-requires
     cost-at-requires
     loop-holds
-    (λ c κs. omega (arith, c.loop-test.true))
+    (λ c κs. omega (arith, c.loop-calls-test.true))
     cost-from-requires
     sub-slacks
     (λ c. omega (arith, few c.before))
     (λ c. omega (arith, few c.before))
     (λ c. omega (arith, few c.before))
-    (λ c. omega (arith, few c.before))
-    (λ c κs. omega (arith, few c.before))
+    (λ c. omega (arith, few c.before.before))
+    (λ c κs. omega (arith, few c.before.before))
     loop-less
     loop-again
     returns)

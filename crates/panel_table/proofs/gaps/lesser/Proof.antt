@@ -6,15 +6,15 @@ use borrow.Author.Tests.{ltb-true, ltb-false}
 use Rattle.panel_table.proofs.gaps.lesser.Statement.{statement}
 use Rattle.panel_table.proofs.gaps.lesser.Tie as tie
 
-returns : tie.Need-returns
+returns : tie.Need-returns-then-under
 returns c =
-    let a = c.before.before.args in
-    omega (arith, ltb-true a.b a.a (sym c.before.under.ensures ∙ c.if1.true))
+    let a = c.args in
+    omega (arith, ltb-true a.b a.a (sym c.under.ensures ∙ c.if-under.true))
 
-returns-2 : tie.Need-returns-2
+returns-2 : tie.Need-returns-else-under
 returns-2 c =
-    let a = c.before.before.args in
-    omega (arith, ltb-false a.b a.a (sym c.before.under.ensures ∙ c.if1.false))
+    let a = c.args in
+    omega (arith, ltb-false a.b a.a (sym c.under.ensures ∙ c.if-under.false))
 
-pub lesser-spec : {M : Type 1} → statement M
-lesser-spec = tie.close (tie.spec (λ c κs. search rules) returns returns-2)
+pub lesser_spec : {M : Type 1} → statement M
+lesser_spec = tie.close (tie.spec (λ c κs. search rules) returns returns-2)

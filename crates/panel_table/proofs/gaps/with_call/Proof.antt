@@ -9,11 +9,11 @@ use Rattle.panel_table.proofs.gaps.with_call.Tie as tie
 
 returns : tie.Need-returns
 returns c =
-    let a = c.before.before.before.before.args in
-    let lower = sym c.before.before.before.under.ensures in
-    let others-is : c.before.before.if1.others ≡ cond (ltb a.new a.low) 0 a.word =
-    ⊎_elim (λ (if1, is). is ∙ rw (lower ∙ if1.taken)) (λ (if1, is). is ∙ rw (lower ∙ if1.left)) c.before.before.if1.branch in
-    rw (others-is, c.before.under2.ensures) at c.including-if.ensures
+    let a = c.args in
+    let lower = sym c.under.ensures in
+    let others-is : c.if-under.others ≡ cond (ltb a.new a.low) 0 a.word =
+    ⊎_elim (λ (if1, is). is ∙ rw (lower ∙ if1.true)) (λ (if1, is). is ∙ rw (lower ∙ if1.left)) c.if-under.branch-raw in
+    rw (others-is, c.under-2.ensures) at c.including_if.ensures
 
-pub with-call-spec : {M : Type 1} → statement M
-with-call-spec = tie.close (tie.spec (λ c κs. search rules) (λ c κs. search rules) (λ c κs. search rules) returns)
+pub with_call_spec : {M : Type 1} → statement M
+with_call_spec = tie.close (tie.spec (λ c κs. search rules) (λ c κs. search rules) (λ c κs. search rules) returns)

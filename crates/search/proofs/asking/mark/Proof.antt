@@ -19,4 +19,4 @@ mark_spec =
     (λ c κs. search rules)
     (λ c. search rules)
     (λ c. search rules)
-    (λ c. (put_set c.before.before.including-if.ensures (omega arith), put_set c.including-if2.ensures (omega arith))))
+    (λ c. (put_set c.including_if.ensures (omega arith), put_set c.including_if-2.ensures (omega arith))))

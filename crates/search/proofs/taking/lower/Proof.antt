@@ -12,5 +12,5 @@ lower_spec =
     (λ c. search rules)
     (λ c. search rules)
     (λ c. search rules)
-    (λ c. rw (not-true c.before.before.before.args.ranked c.before.before.if1.true))
-    (λ c. rw (not-false c.before.args.ranked c.if1.false)))
+    (λ c. rw (not-true c.args.ranked c.if-not-ranked.true))
+    (λ c. rw (not-false c.args.ranked c.if-not-ranked.false)))

@@ -9,22 +9,22 @@ use Rattle.search.proofs.Releasing.{Releasing, releasing_none, releasing_more, r
 use Rattle.search.proofs.taking.release.Statement.{statement}
 use Rattle.search.proofs.taking.release.Tie as tie
 
-abbrev invariant-loop : tie.invariant-loop
+abbrev invariant-loop : tie.invariant-loop-left
 invariant-loop lots taken other marks₀ j again₀ left₀ marks again left = (j < 32) × Releasing j lots left taken other marks₀ marks again
 
-abbrev decreases-loop : tie.decreases-loop
+abbrev decreases-loop : tie.decreases-loop-left
 decreases-loop lots taken other marks₀ j again₀ left₀ marks again left = left
 
-loop-again : tie.Need-loop-preserved invariant-loop decreases-loop
+loop-again : tie.Need-loop-left-preserved invariant-loop decreases-loop
 loop-again c =
     let put = c.before in
     let tested = put.before.before in
     let word = tested.before.before in
     let lowest = word.before.before in
-    let inv = lowest.before.before.loop.invariant in (
+    let inv = lowest.loop-left.invariant in (
       inv.0,
-      releasing_more inv.1 (omega arith) lowest.lowest.ensures.0.is_in c.without2.ensures word.without.ensures
-          (⊎_elim (λ w. w.2 ∙ rw (← tested.is_set.ensures, w.0.taken)) (λ w. w.1 ∙ rw (← tested.is_set.ensures, w.0.left)) put.before.if1.branch) put.including-if.ensures,
+      releasing_more inv.1 (omega arith) lowest.lowest-k.ensures.0.is_in c.without-left.ensures word.without.ensures
+          (⊎_elim (λ w. w.2 ∙ rw (← tested.is_set.ensures, w.0.true)) (λ w. w.1 ∙ rw (← tested.is_set.ensures, w.0.left)) put.if-not-is_set.branch-raw) put.including_if-again.ensures,
     )
 
 pub release_spec : {M : Type 1} → statement M
@@ -39,7 +39,7 @@ release_spec =
     (λ c. omega arith)
     (λ c κs. omega arith)
     (λ c. omega arith)
-    (λ c. omega (arith, c.before.before.before.before.loop.invariant.1.released.long))
+    (λ c. omega (arith, c.loop-left.invariant.1.released.long))
     (λ c. omega arith)
     (λ c. omega arith)
     (λ c κs. tt)
@@ -48,6 +48,6 @@ release_spec =
     (λ c. search rules)
     (λ c κs. omega arith)
     (λ c κs. omega arith)
-    (λ c. c.without2.ensures.lower c.before.before.before.before.before.before.before.lowest.ensures.0.is_in)
+    (λ c. c.without-left.ensures.lower c.lowest-k.ensures.0.is_in)
     loop-again
-    (λ c. releasing_all c.before.loop.invariant.1 (omega arith)))
+    (λ c. releasing_all c.loop-left.invariant.1 (omega arith)))

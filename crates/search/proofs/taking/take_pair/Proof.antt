@@ -22,12 +22,12 @@ returns c =
       low_again = _;
       high_again = _;
       low_unmarked = low.unmark.ensures;
-      high_unmarked = high.unmark2.ensures;
+      high_unmarked = high.unmark-in_high.ensures;
       asked = c.either.ensures;
     }
 
-pub take-pair-spec : {M : Type 1} → statement M
-take-pair-spec =
+pub take_pair_spec : {M : Type 1} → statement M
+take_pair_spec =
     tie.close
     (tie.spec
     (λ c. search rules)
@@ -42,6 +42,6 @@ take-pair-spec =
     (λ c. search rules)
     (λ c. search rules)
     (λ c κs. search rules)
-    (λ c κs. let p = c.before.before.before.before.before.before.before.before.before.before.before.before.before.before.before.before.before.before.before.before.requires.1 in (p.0.0, p.0.1, p.1.1))
+    (λ c κs. let p = c.requires.1 in (p.0.0, p.0.1, p.1.1))
     (λ c κs. tt)
     returns)

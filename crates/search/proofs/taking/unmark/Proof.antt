@@ -12,11 +12,11 @@ returns c =
     let lots = rest.before.before in
     let column = lots.before.before in
     let word = column.before in
-    let p = word.before.before.before.requires in
-    unmarked p.0 p.1 p.2 word.before.before.may-go.ensures column.may-go2.ensures word.unless.ensures lots.unless2.ensures rest.unless3.ensures c.release.ensures
+    let p = word.requires in
+    unmarked p.0 p.1 p.2 word.may_go.ensures column.may_go-gone.ensures word.unless.ensures lots.unless-lots.ensures rest.unless-2.ensures c.release.ensures
 
-pub unmark-spec : {M : Type 1} → statement M
-unmark-spec =
+pub unmark_spec : {M : Type 1} → statement M
+unmark_spec =
     tie.close
     (tie.spec
     (λ c κs. tt)
@@ -34,5 +34,5 @@ unmark-spec =
     (λ c κs. tt)
     (λ c. search rules)
     (λ c. search rules)
-    (λ c κs. let p = c.before.before.before.before.before.before.before.before.before.requires in (p.1, simp length-set p.2.long))
+    (λ c κs. let p = c.requires in (p.1, simp length-set p.2.long))
     returns)

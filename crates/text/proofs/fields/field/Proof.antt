@@ -6,9 +6,9 @@ use Rattle.text.proofs.fields.field.Statement.{statement}
 use Rattle.text.proofs.fields.field.Tie as tie
 
 returns : tie.Need-returns
-returns c = append_more c.before.before.before.before.before.before.put.ensures c.before.before.number.ensures
+returns c = append_more c.put-next.ensures c.number.ensures
 
-pub field-spec : {M : Type 1} → statement M
-field-spec =
+pub field_spec : {M : Type 1} → statement M
+field_spec =
     tie.close
     (tie.spec (λ c κs. record { fits = omega arith }) (λ c κs. record { fits = omega arith }) (λ c. search rules) returns)

@@ -10,31 +10,31 @@ use Rattle.text.proofs.Appending.{append_none, append_more}
 use Rattle.text.proofs.fields.word.Statement.{statement}
 use Rattle.text.proofs.fields.word.Tie as tie
 
-abbrev invariant-loop : tie.invariant-loop
+abbrev invariant-loop : tie.invariant-loop-k
 invariant-loop out₀ at bytes next₀ k₀ out next k = (k ≤ length bytes) × (next ≡ at + k) × Appended at out₀ (take k bytes) next out
 
-abbrev decreases-loop : tie.decreases-loop
+abbrev decreases-loop : tie.decreases-loop-k
 decreases-loop out₀ at bytes next₀ k₀ out next k = length bytes - k
 
-loop-holds : tie.Need-loop-init invariant-loop decreases-loop
+loop-holds : tie.Need-loop-k-init invariant-loop decreases-loop
 loop-holds c = (omega arith, omega arith, append_none _ _)
 
-loop-again : tie.Need-loop-preserved invariant-loop decreases-loop
+loop-again : tie.Need-loop-k-preserved invariant-loop decreases-loop
 loop-again c =
     let p = c.before.before in
     let at-loop = p.before.before.before.before in
-    let bytes = at-loop.before.before.before.args.bytes.now in (
+    let bytes = at-loop.args.bytes.now in (
       omega arith,
       omega arith,
-      rw (add-one, take-suc bytes at-loop.loop.k 0 (omega arith)) (append_more at-loop.loop.invariant.2 p.put.ensures),
+      rw (add-one, take-suc bytes at-loop.loop-k.k 0 (omega arith)) (append_more at-loop.loop-k.invariant.2 p.put-next.ensures),
     )
 
 returns : tie.Need-returns invariant-loop decreases-loop
 returns c =
-    rw (take_all c.before.loop.k c.before.before.before.before.args.bytes.now (omega arith)) at c.before.loop.invariant.2
+    rw (take_all c.loop-k.k c.args.bytes.now (omega arith)) at c.loop-k.invariant.2
 
-pub word-spec : {M : Type 1} → statement M
-word-spec =
+pub word_spec : {M : Type 1} → statement M
+word_spec =
     tie.close
     (tie.spec
     invariant-loop
