@@ -11,7 +11,7 @@ render-requires c κs =
     let lots = c.before.before.before in
     let ran = lots.before.before in (
       λ o given.
-          let few = counts_fit _ _ _ ran.by_find_and_run.result ran.by_find_and_run.ensures.0 o given in
+          let few = counts_fit _ _ _ ran.find_and_run-placed.result ran.find_and_run-placed.ensures.0 o given in
           (omega (arith, lots.u8_at-lots.ensures, few.0), omega (arith, c.u8_at-calls.ensures, few.1)),
       omega arith,
     )
@@ -23,7 +23,7 @@ returns c =
     let lots = calls.before in
     let ran = lots.before.before in
     prints _ _ _ _ _ _ _ _ _ _ _ _ ran.at_most-book.ensures ran.at_most.ensures refl refl
-    ran.by_find_and_run.ensures.0 ran.by_find_and_run.ensures.1 lots.u8_at-lots.ensures calls.u8_at-calls.ensures done.render-length.ensures
+    ran.find_and_run-placed.ensures.0 ran.find_and_run-placed.ensures.1 lots.u8_at-lots.ensures calls.u8_at-calls.ensures done.render-length.ensures
 
 pub printed_text_spec : {M : Type 1} → statement M
 printed_text_spec =

@@ -10,4 +10,4 @@ placer_find_and_run_panel_spec =
     tie.close
     (tie.spec
     (λ c κs. search rules) (λ c κs. search rules) (λ c. search rules)
-    (λ c. let reply = c.before.before.before.by_find_and_run_panel in (c.placed.ensures ∙ ap (answer_of placed) reply.ensures.0, reply.ensures.1)))
+    (λ c. let reply = c.find_and_run_panel in (c.placed.ensures ∙ ap (answer_of placed) reply.ensures.0, reply.ensures.1)))

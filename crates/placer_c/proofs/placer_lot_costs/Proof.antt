@@ -16,7 +16,7 @@ returns : tie.Need-returns-then-len-eq0
 unfolding stretch_of
 returns c =
     let s = c.before.before.before in
-    let none : lot_costs s.args.book.now s.args.lot ≡ [] = sym c.before.costs_of_lot.ensures ∙ nil_of_length _ c.if-len-eq0.true in
+    let none : lot_costs s.args.book.now s.args.lot ≡ [] = sym c.lot_costs-costs.ensures ∙ nil_of_length _ c.if-len-eq0.true in
     rw none (refl, refl)
 
 -- some costs are there
@@ -25,7 +25,7 @@ module _ (c : tie.Else-len-eq0) where
   start = c.before.before.before
 
   some : length (lot_costs start.args.book.now start.args.lot) ≡ 0 → ⊥
-  some = rw c.before.costs_of_lot.ensures at c.if-len-eq0.false
+  some = rw c.lot_costs-costs.ensures at c.if-len-eq0.false
 
   stands : CostsStand start.args.book.now start.args.lot
   stands = costs_stand _ _ (read_book start.args.book.now) refl some
@@ -37,7 +37,7 @@ returns-2 : tie.Need-returns
 unfolding stretch_of
 returns-2 c =
     let e = c.before in
-    rw (e.before.costs_of_lot.ensures, ne_eqb _ _ (some e), c.row_at.ensures) (refl, (stands e).stretch)
+    rw (e.lot_costs-costs.ensures, ne_eqb _ _ (some e), c.row_at.ensures) (refl, (stands e).stretch)
 
 pub placer_lot_costs_spec : {M : Type 1} → statement M
 placer_lot_costs_spec =

@@ -10,4 +10,4 @@ placer_pair_cost_spec =
     tie.close
     (tie.spec
     (λ c κs. search rules) (λ c κs. search rules)
-    (λ c. c.cost.ensures ∙ ap (answer_of cost_of) c.before.cost_of_pair.ensures))
+    (λ c. c.cost.ensures ∙ ap (answer_of cost_of) c.pair_cost.ensures))

@@ -9,8 +9,8 @@ use Rattle.ranks.proofs.passes.Tie as tie
 numbered : (c : tie.Else-not-renames-2) → let a = c.args in Numbered a.n a.m a.names.now a.ranks.now
 numbered c =
     let first = c.before.before in
-    let lots = simp zero-add at (first.renames.ensures (not-false _ first.if-not-renames.false)) in
-    let calls = c.renames-else-not-renames.ensures (not-false _ c.if-not-renames-2.false) in
+    let lots = simp zero-add at (first.renames.ensures (first.if-not-renames.false)) in
+    let calls = c.renames-else-not-renames.ensures (c.if-not-renames-2.false) in
     search rules
 
 pub passes_spec : {M : Type 1} → statement M

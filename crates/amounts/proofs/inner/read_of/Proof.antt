@@ -127,13 +127,13 @@ module _ (c : tie.After-all_within) where
       ap (every _) (fun_ext (λ k. ap (λ n. leb n amount_limit) (same k))) ∙ sym c.all_within.ensures ∙ e
 
 returns-6 : tie.Need-returns-then-not-all_within
-returns-6 c = sym (past-8 c.before ∙ rw (within-is c.before (not-true _ c.if-not-all_within.true)) refl)
+returns-6 c = sym (past-8 c.before ∙ rw (within-is c.before (c.if-not-all_within.true)) refl)
 
 -- no amount is above the limit: 21 is left
 module _ (c : tie.Else-not-all_within) where
   past-16 : read_amounts_of (size (sized c.before)) (file (sized c.before))
       ≡ (refuse_if (not (all-reserved c.before)) 21 [] >>= λ _. gives (size (sized c.before)))
-  past-16 = past-8 c.before ∙ rw (within-is c.before (not-false _ c.if-not-all_within.false)) refl
+  past-16 = past-8 c.before ∙ rw (within-is c.before (c.if-not-all_within.false)) refl
 
   carried : carries_reserves (file (sized c.before)) ≡ (sized c.before).has_reserves-reserved.result
   carried = sym (sized c.before).has_reserves-reserved.ensures
@@ -145,15 +145,15 @@ returns-7 : tie.Need-returns-then-not-within_lots
 unfolding all-reserved
 returns-7 c =
     let e = c.before.before.before in
-    sym (past-16 e ∙ rw (sym c.within_lots.ensures ∙ not-true _ c.if-not-within_lots.true) refl)
+    sym (past-16 e ∙ rw (sym c.within_lots.ensures ∙ c.if-not-within_lots.true) refl)
 
 returns-8 : tie.Need-returns
 unfolding all-reserved
 returns-8 c =
     let e = c.before in
     let kept : all-reserved e.before ≡ true = ⊎_elim
-    (λ (if6, within, if7). sym within.ensures ∙ not-false _ if7.left)
-    (λ if6. T_true _ (every_of _ _ (λ i h. le→leb _ _ (within_without _ (carried e ∙ if6.left) i))))
+    (λ w. sym w.within_lots.ensures ∙ w.if-not-within_lots.false)
+    (λ w. T_true _ (every_of _ _ (λ i h. le→leb _ _ (within_without _ (carried e ∙ w.if-reserved.false) i))))
     c.else-reserved.branch-raw in
     sym (past-16 e ∙ rw kept refl)
 

@@ -12,13 +12,13 @@ use Rattle.order.proofs.places.meet.Statement.{statement}
 use Rattle.order.proofs.places.meet.Tie as tie
 
 returns : tie.Need-returns-then-not-eligible
-returns c = met_not_eligible _ _ _ _ _ _ _ _ (sym c.eligible.ensures ∙ not-true _ c.if-not-eligible.true)
+returns c = met_not_eligible _ _ _ _ _ _ _ _ (sym c.eligible.ensures ∙ c.if-not-eligible.true)
 
 -- where control goes on, the pair is eligible
 is-admitted : (c : tie.Else-not-eligible)
     → admits_by c.args.offsets.now c.args.n c.args.m
     c.args.i.0 c.args.j.0 ≡ true
-is-admitted c = sym c.eligible.ensures ∙ not-false _ c.if-not-eligible.false
+is-admitted c = sym c.eligible.ensures ∙ c.if-not-eligible.false
 
 in_table : (c : tie.Else-not-eligible) → (c.args.i.0 < 32) × (c.args.j.0 < 32)
 in_table c =
