@@ -40,8 +40,8 @@ by_rank_spec =
     decreases-loop
     (λ c κs. search rules)
     (λ c. let p = c.requires in ⊎_elim
-    (λ w. by_rank_plain p.1 p.2 (not-true _ w.true))
-    (λ w. by_rank_all p.1 p.2 (subst⁻¹ (Below 4294967295 _) (eqb-true _ _ w.2.true) w.1.ensures))
+    (λ w. by_rank_plain p.1 p.2 w.if-not-ranked.true)
+    (λ w. by_rank_all p.1 p.2 (subst⁻¹ (Below 4294967295 _) (eqb-true _ _ w.if-word-below.true) w.below.ensures))
     c.then-not-ranked.branch-raw)
     (λ c. ranking_none)
     (λ c κs. search rules)

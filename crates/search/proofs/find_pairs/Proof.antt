@@ -47,7 +47,7 @@ next-pair-requires c κs =
 -- what is asked for the next pair
 module _ (c : tie.After-next_pair-next invariant-loop decreases-loop) where
   abbrev top : tie.At-loop-count invariant-loop decreases-loop
-  top = c.before.before.before.before.before.before.before.before.before.before.before.before.before
+  top = c.before.before.before.before.before.before.before.before.before.before.before.before
 
   more : top.loop-count.count < (start top).args.total
   more = c.loop-count-test.true

@@ -46,8 +46,8 @@ loop-again c =
       own_is,
       own_few,
       ⊎_elim
-          (λ w. rw (w.1, w.0.true) (record { none = λ z. absurd (true≢false z); some = λ z. (t.loop-l.l, omega arith, omega (arith, ltb-true other left (sym e ∙ w.0.true))) }))
-          (λ w. rw w.1 (record { none = λ z. below_more _ _ (m.none z) (omega (arith, ltb-false other left (sym e ∙ w.0.left))); some = m.some }))
+          (λ w. rw (w.found-is, w.if-entry_at-own.true) (record { none = λ z. absurd (true≢false z); some = λ z. (t.loop-l.l, omega arith, omega (arith, ltb-true other left (sym e ∙ w.if-entry_at-own.true))) }))
+          (λ w. rw w.found-is (record { none = λ z. below_more _ _ (m.none z) (omega (arith, ltb-false other left (sym e ∙ w.if-entry_at-own.false))); some = m.some }))
           c.if-entry_at-own.branch-raw,
     )
 

@@ -28,7 +28,7 @@ module _ (c : tie.After-fits3) where
   last = top.before.before
 
   abbrev first : tie.After-wide-first
-  first = last.before.before
+  first = last.before.before.before
 
   abbrev fit : ℕ → ℕ → Bool
   fit k l = let a = first.args in fits_by a.costs.now a.lot.0 a.call.0 k l
@@ -61,5 +61,5 @@ try_corners_spec =
     (λ c κs. search rules)
     (λ c κs. search rules)
     (λ c. sym (ap₂ corners_tell c.if-low.true c.if-high.true) ∙ tells c.before.before)
-    (λ c. hindered-told c.fits-high.result c.before.fits3.result (⊎_elim (λ w. ap₂ ◌&&◌ w.0.true w.1.left) (λ w. ap (λ (b : Bool). b && c.before.fits3.result) w.left) c.else-low.branch-raw)
+    (λ c. hindered-told c.fits-high.result c.before.fits3.result (⊎_elim (λ w. ap₂ ◌&&◌ w.if-low.true w.if-high.false) (λ w. ap (λ (b : Bool). b && c.before.fits3.result) w.if-low.false) c.else-low.branch-raw)
     ∙ tells c.before))

@@ -43,7 +43,7 @@ loop-holds c =
 -- the lot that is asked still has the call, and there are no ranks
 module _ (c : tie.After-wide-k invariant-loop decreases-loop) where
   abbrev top : tie.At-loop-lots invariant-loop decreases-loop
-  top = c.before.before.before.before
+  top = c.before.before.before.before.before
 
   abbrev s : tie.Start invariant-loop decreases-loop
   s = start top.before
@@ -68,8 +68,8 @@ returns-3 c =
     let e = c.before.before.before.before in
     let (t, p) = (s e.before.before.before).requires in (
       ⊎_elim
-          (λ w. hinders_missing t _ (held e.before.before.before) (plain e.before.before.before) c.minus.ensures w.true)
-          (λ w. hinders_misfit t _ (held e.before.before.before) (plain e.before.before.before) w.1.ensures w.2.true)
+          (λ w. hinders_missing t _ (held e.before.before.before) (plain e.before.before.before) c.minus.ensures w.if-minus-gt0.true)
+          (λ w. hinders_misfit t _ (held e.before.before.before) (plain e.before.before.before) w.misfits.ensures w.if-misfits.true)
           c.then-minus-gt0.branch-raw,
       rw (top e.before.before.before).loop-lots.invariant.1 (passed_next t (top e.before.before.before).loop-lots.invariant.0 p e.lowest-p.ensures.0),
     )

@@ -2,6 +2,7 @@
 -- the lowest place from p on that fails.
 use Rattle.std.proofs.Common.{◌≡◌, ℕ, ◌+◌, ◌-◌, ◌<◌, ◌≤◌, Bool, true, false, cond, not, eqb, get_or, set, ap, arith, rules}
 use lib.Bits.{bit_and, bit_or}
+use borrow.Author.Tests.{eq-eqb, ne_eqb}
 use Rattle.book.specs.Table.{entry}
 use Rattle.walk.proofs.Walking.{WalkedFrom, shared_has, walked_none, walk_turn}
 use Rattle.walk.proofs.walk.Statement.{statement}
@@ -68,7 +69,7 @@ enter-requires c κs =
 -- the turn of the pair at p - 1
 module _ (c : tie.After-enter-fits invariant-loop decreases-loop) where
   abbrev known : tie.After-call_at-j invariant-loop decreases-loop
-  known = c.before.before.before.before.before
+  known = c.before.before.before.before.before.before
 
   abbrev lot : ℕ
   lot = known.lot_at-i.result.0
@@ -85,7 +86,7 @@ module _ (c : tie.After-enter-fits invariant-loop decreases-loop) where
   turned : (b : Bool) → eqb (bit_and marked c.enter-fits.result) marked ≡ b
       → WalkedFrom (start known).args.book.now (start known).args.offsets.now (start known).args.order.now (start known).args.count
       (start known).args.m ((at known).loop-p.p - 1) (set (at known).loop-p.common call shared) (set (at known).loop-p.later lot marked)
-      c.enter-fits.new.1.1.1.1.1.1.1.0 (cond b (at known).loop-p.lowest ((at known).loop-p.p - 1))
+      c.enter-fits.new.least (cond b (at known).loop-p.lowest ((at known).loop-p.p - 1))
   turned =
       let a = (start known).args in
       let l = (at known).loop-p in
@@ -94,16 +95,11 @@ module _ (c : tie.After-enter-fits invariant-loop decreases-loop) where
       l.p next_is lot call known.lot_at-i.ensures known.call_at-j.ensures l.common l.later _ _ _ _ _ l.lowest
       c.cost_at.ensures ((at known).singles-singles.ensures.is call (call_few known)) c.enter-fits.ensures l.invariant.1
 
--- it is free, or it fails
-denied : (x b : Bool) → not x ≡ b → x ≡ not b
-denied true b e = ap not e
-denied false b e = ap not e
-
 loop-again-2 : tie.Need-loop-p-preserved invariant-loop decreases-loop
-loop-again-2 c = (omega arith, turned c.before true (denied _ false c.if-fails.false))
+loop-again-2 c = (omega arith, turned c.before true (eq-eqb _ _ c.if-fails.false))
 
 loop-again : tie.Need-loop-p-preserved-then-fails invariant-loop decreases-loop
-loop-again c = (omega arith, turned c.before false (denied _ true c.if-fails.true))
+loop-again c = (omega arith, turned c.before false (ne_eqb _ _ c.if-fails.true))
 
 returns : tie.Need-returns invariant-loop decreases-loop
 returns c = λ n few_lots each_once.

@@ -103,15 +103,15 @@ loop-again c =
     let put = rw (← mark) at (mark_put marks hi hj out) in
     let renewed = t.renew.ensures in
     ⊎_elim
-    (λ (if1, lifted, give, units-is, state-is, placed-is, lifted-is).
-    rw (units-is, state-is, placed-is, lifted-is) (
+    (λ w.
+    rw (w.units-is, w.state-is, w.placed-is, w.lifted-is) (
       omega arith,
-      kept_room _ _ _ _ _ _ (asked f) _ _ _ _ _ _ _ l.invariant.1 (i f) (j f) (free f) _ _ _ out own renewed _ _ give.ensures t.smaller-room.ensures
+      kept_room _ _ _ _ _ _ (asked f) _ _ _ _ _ _ _ l.invariant.1 (i f) (j f) (free f) _ _ _ out own renewed _ _ w.give-state.ensures t.smaller-room.ensures
           more (room_fits t),
       put,
     ))
-    (λ (if1, units-is, state-is, placed-is, lifted-is).
-    rw (units-is, state-is, placed-is, lifted-is) (
+    (λ w.
+    rw (w.units-is, w.state-is, w.placed-is, w.lifted-is) (
       omega arith,
       kept_no_room _ _ _ _ _ _ (asked f) _ _ _ _ _ _ _ l.invariant.1 (i f) (j f) (free f) _ _ _ out own renewed (omega arith) more,
       put,

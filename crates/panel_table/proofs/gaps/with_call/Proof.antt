@@ -12,7 +12,7 @@ returns c =
     let a = c.args in
     let lower = sym c.under.ensures in
     let others-is : c.if-under.others ≡ cond (ltb a.new a.low) 0 a.word =
-    ⊎_elim (λ (if1, is). is ∙ rw (lower ∙ if1.true)) (λ (if1, is). is ∙ rw (lower ∙ if1.left)) c.if-under.branch-raw in
+    ⊎_elim (λ w. w.others-is ∙ rw (lower ∙ w.if-under.true)) (λ w. w.others-is ∙ rw (lower ∙ w.if-under.false)) c.if-under.branch-raw in
     rw (others-is, c.under-2.ensures) at c.including_if.ensures
 
 pub with_call_spec : {M : Type 1} → statement M

@@ -24,7 +24,7 @@ loop-again c =
     let inv = lowest.loop-left.invariant in (
       inv.0,
       releasing_more inv.1 (omega arith) lowest.lowest-k.ensures.0.is_in c.without-left.ensures word.without.ensures
-          (⊎_elim (λ w. w.2 ∙ rw (← tested.is_set.ensures, w.0.true)) (λ w. w.1 ∙ rw (← tested.is_set.ensures, w.0.left)) put.if-not-is_set.branch-raw) put.including_if-again.ensures,
+          (⊎_elim (λ w. w.including_if-is ∙ rw (← tested.is_set.ensures, w.if-not-is_set.true)) (λ w. w.including_if-is ∙ rw (← tested.is_set.ensures, w.if-not-is_set.false)) put.if-not-is_set.branch-raw) put.including_if-again.ensures,
     )
 
 pub release_spec : {M : Type 1} → statement M

@@ -30,11 +30,11 @@ module _ (c : tie.Joined-word-all invariant-loop decreases-loop) where
       let (_, lot_in, calls_are, word_is, all-is) = start.requires in
       let inv = c.loop-j.invariant in
       ⊎_elim
-      (λ (_, called, e). let from = rw (← e, word_is) at called.ensures in
+      (λ w. let from = rw (← w.j-is, word_is) at w.set_from-j.ensures in
       let r = reached_to inv lot_in from in
       (r, (λ h. at_cost r lot_in (from.is_set (omega (arith, few start)))), from.not_below inv.bounded))
-      (λ (whole, e). let r = rw (← e) at inv in
-      (r, (λ h. at_cost r lot_in (rw (← word_is, whole.left, all-is) (bit_all _ _ h))), omega arith))
+      (λ w. let r = rw (← w.j-is) at inv in
+      (r, (λ h. at_cost r lot_in (rw (← word_is, w.if-word-all.false, all-is) (bit_all _ _ h))), omega arith))
       c.if-word-all.branch-raw
 
 -- and below m it is, where the turn goes on
@@ -52,7 +52,7 @@ enter_lot_spec =
     (λ c. c.requires.0)
     (λ c κs. tt)
     (λ c. let p = (start c.before).requires in reached_all (here c.before).0 p.1 (omega (arith, p.2, c.if-m-j.true)))
-    (λ c κs. (cost c).ranges)
+    (λ c κs. (cost c).fits)
     (λ c κs. rw c.cost_at.ensures (cost c.before).low)
     (λ c. omega (arith, (cost c.before.before).inside))
     (λ c. omega (arith, (cost c.before.before.before).inside))

@@ -47,7 +47,7 @@ lower-requires c κs =
 -- the call that is done next
 module _ (c : tie.After-lower-fits invariant-loop decreases-loop) where
   abbrev at : tie.At-loop-left invariant-loop decreases-loop
-  at = c.before.before.before.before.before.before
+  at = c.before.before.before.before.before.before.before
 
   abbrev start : tie.Start invariant-loop decreases-loop
   start = at.before.before
