@@ -28,18 +28,18 @@ returns-2 : tie.Need-returns-then-all_fit
 returns-2 c =
     let f = c.before.before.before.before in
     let k = own (numbers f) in
-    ((k, f.fill2.ensures), ((λ e. ranked_of (numbers f).requires.0 f.fill2.ensures k (c.all_fit.ensures c.if-all_fit.true)), λ e. absurd (true≢false e)))
+    ((k, f.fill-2.ensures), ((λ e. ranked_of (numbers f).requires.0 f.fill-2.ensures k (c.all_fit.ensures c.if-all_fit.true)), λ e. absurd (true≢false e)))
 
 returns-3 : tie.Need-returns-then-passes
 returns-3 c =
     let f = c.before.before.before.before.before.before.before.before.before.before.before in
     let (k, fit) = c.passes.ensures c.if-passes.true in
-    ((k, f.fill2.ensures), ((λ e. ranked_of (numbers f).requires.0 f.fill2.ensures k fit), λ e. absurd (true≢false e)))
+    ((k, f.fill-2.ensures), ((λ e. ranked_of (numbers f).requires.0 f.fill-2.ensures k fit), λ e. absurd (true≢false e)))
 
 returns-4 : tie.Need-returns
 returns-4 c =
     let k = c.before.before.before.before.before.before.before.before.before.before.before.before.before in
-    ((own k, c.fill-3.ensures), ((λ e. absurd (T_of e)), λ e. k.numbers.ensures.1))
+    ((own k, c.fill-3.ensures), ((λ e. absurd (T_of e)), λ e. k.numbers-plain.ensures.1))
 
 pub rank_spec : {M : Type 1} → statement M
 rank_spec =
@@ -55,7 +55,7 @@ rank_spec =
     returns-2
     (λ c κs. search rules)
     (λ c κs. let f = c.before.before.before.before.before.before.before.before.before in
-    let s = (numbers f).requires.0 in (low_of f.fill2.ensures, s.lots_few, s.calls_few))
+    let s = (numbers f).requires.0 in (low_of f.fill-2.ensures, s.lots_few, s.calls_few))
     returns-3
-    (λ c κs. let f = c.before.before.before.before.before.before.before.before.before.before.before.before in ((numbers f).requires.0.capped, f.fill2.ensures.long))
+    (λ c κs. let f = c.before.before.before.before.before.before.before.before.before.before.before.before in ((numbers f).requires.0.capped, f.fill-2.ensures.long))
     returns-4)

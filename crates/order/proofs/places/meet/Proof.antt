@@ -26,20 +26,20 @@ in_table c =
     let h = admitted_in a.offsets.now a.n a.m a.i.0 a.j.0 (is-admitted c) in (omega (arith, h.0), omega (arith, h.1))
 
 entry-of-requires : tie.Need-entry_of-met-requires
-entry-of-requires c κs = in_table c.before
+entry-of-requires c κs = in_table c
 
 returns-2 : tie.Need-returns-then-met-gt0
 returns-2 c =
-    met_before _ _ _ _ _ _ _ _ (is-admitted c.before.before.before) (omega (arith, c.entry_of-met.ensures, c.if-met-gt0.true))
+    met_before _ _ _ _ _ _ _ _ (is-admitted c.before.before) (omega (arith, c.entry_of-met.ensures, c.if-met-gt0.true))
 
 mul-places : tie.Need-overflow_mul-places
-mul-places c = omega (arith, in_table c.before.before.before)
+mul-places c = omega (arith, in_table c.before.before)
 
 add-places : tie.Need-overflow_add-places-2
-add-places c = omega (arith, in_table c.before.before.before)
+add-places c = omega (arith, in_table c.before.before)
 
 mul-places-2 : tie.Need-offset_bounds-places-lot
-mul-places-2 c = omega (arith, in_table c.before.before.before)
+mul-places-2 c = omega (arith, in_table c.before.before)
 
 element-write-places : tie.Need-bounds-places-lot
 element-write-places c = omega (arith, in_table c.before.before.before)
