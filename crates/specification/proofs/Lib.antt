@@ -4,6 +4,7 @@ pub mod AllRebates  -- costs below zero (request 4), computed
 pub mod AllEmptyDesks  -- desks with no lots or no calls (request 5), computed
 pub mod AllPanels  -- the ticket panel (request 6), computed
 pub mod AllReserves  -- stock reserved by the desk (request 7), computed
+pub mod AllChanges  -- changes in the day (request 8), computed
 pub mod AllBytes  -- the bytes of the files, computed
 pub mod AllOrders  -- the check where lots and calls are not alike, computed
 pub mod AllAnswers  -- what each case of an answer states, on an input that shows it
@@ -35,6 +36,10 @@ pub mod Refused  -- what the refusals of a file mean, exactly
 pub mod RefusedOrders  -- what the refusals of an order mean, exactly
 pub mod RefusedRuns  -- what each refusal means, exactly
 pub mod OwnLines  -- each is a line of the table, with a number of its own
+pub mod PutNumbers  -- a 32-bit number put into a file
+pub mod ChangedFields  -- the amounts of a file with a new amount in place
+pub mod Changes  -- what a change of one amount says
+pub mod RefusedChanges  -- what each refusal of a change means, exactly
 pub mod Largest  -- a readable book of 4,231 bytes
 pub mod Cuts  -- a file of which the first bytes are read
 pub mod Bounds  -- units and cost fit 64 bits
@@ -46,6 +51,7 @@ pub mod EmptyBooks  -- reading a book with no lots or no calls, and its amounts
 pub mod NothingPlaced  -- where no pair is eligible, every run has one outcome
 pub mod Demands  -- the three demands, proved
 pub mod EmptyDesks  -- what request 5 promises beside the demands
+pub mod DayChanges  -- what request 8 promises beside the demands
 pub mod Examples  -- the demands speak of something: F1 and F9
 pub mod ReserveExamples  -- request 7 speaks of something
 pub mod Stated  -- two answers that state the same are the same

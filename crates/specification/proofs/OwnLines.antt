@@ -22,8 +22,8 @@ use Rattle.specification.proofs.Causes.{accepted_exactly}
 use Rattle.specification.proofs.RefusedRuns.{refused_by_first}
 
 -- causes that are lines of the table, with numbers among some
-record Own (ns : List ℕ) (C : Causes) : Type 0 where
-  by : (k : ℕ) (vs : List ℕ) → C k vs → InTable k vs × T (among k ns)
+pub record Own (ns : List ℕ) (C : Causes) : Type 0 where
+  pub by : (k : ℕ) (vs : List ℕ) → C k vs → InTable k vs × T (among k ns)
 
 own_line : {ns : List ℕ} {H : Type 0} (r : Refusal) → T (among (stated r).number ns) → Own ns (cause (stated r).number (stated r).values H)
 own_line r in_it = record { by = λ k vs (number, values, _). ((r, sym number, sym values), rw number in_it) }
@@ -35,11 +35,11 @@ own_turns : {ns : List ℕ} {n : ℕ} {C : ℕ → Causes} → ((i : ℕ) → Ow
 own_turns each = record { by = λ k vs (i, _, _, here). (each i).by k vs here }
 
 -- numbers that are all among others
-unfoldable all_among : List ℕ → List ℕ → Bool
+unfoldable pub all_among : List ℕ → List ℕ → Bool
 all_among [] ms = true
 all_among (n ∷ ns) ms = among n ms && all_among ns ms
 
-own_more : {C : Causes} {ns ms : List ℕ} → T (all_among ns ms) → Own ns C → Own ms C
+pub own_more : {C : Causes} {ns ms : List ℕ} → T (all_among ns ms) → Own ns C → Own ms C
 unfolding among all_among
 own_more {C} {ns} {ms} all own = record { by = λ k vs c. let (line, in_it) = own.by k vs c in (line, pass k ns all in_it) }
   where
@@ -88,7 +88,7 @@ own_order book s = own_then (own_more tt (own_book book))
     (own_then (own_line refusal.PairMissing tt)
     (own_turns (λ place. own_turns (λ k. own_turns (λ l. own_cross book (order_pairs s) place k l)))))))))
 
-own_numbers : (e : Entry) → Own (numbers_of e) (causes_of e)
+pub own_numbers : (e : Entry) → Own (numbers_of e) (causes_of e)
 unfolding among all_among
 own_numbers (reads_book book) = own_book book
 own_numbers (reads_amounts book amounts) = own_amounts book amounts

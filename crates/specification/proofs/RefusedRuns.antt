@@ -37,7 +37,7 @@ exactly_13 {base} {P} {c} lifts = by_answer (find P) refl
     by_answer (some S) e = exactly_nothing (λ k vs (_, _, never). never S (found_is_good lifts S e))
 
 -- 17
-exactly_flow : (book flow : List ℕ) → Exactly (refuse_if (flow_too_short (problem_of book) flow) 17 []) (flow_short book flow)
+pub exactly_flow : (book flow : List ℕ) → Exactly (refuse_if (flow_too_short (problem_of book) flow) 17 []) (flow_short book flow)
 unfolding problem_of
 exactly_flow book flow = exactly_if (ltb (length flow) (book_lots book * book_calls book)) 17 [] (lt_iff (length flow) (book_lots book * book_calls book))
 

@@ -1,8 +1,8 @@
 -- What the change requests (document 02) promise beside the demands, as types. Above each part stands the sentence it is. A request
 -- that changes what document 01 has is in the definitions and the demands themselves: request 1 in `Ran` and `Verdicts`, request 4 in
 -- `held_cost` and `costs_of`, by which every cost and every least cost is stated, and request 7 in `lot_amount`, by which every amount of a
--- lot is. Requests 5 and 7 have pages of their own, `EmptyDesk` and `Reserves`; what the new numbers mean, and what is refused before what,
--- is in `Refused`.
+-- lot is. Requests 5, 7 and 8 have pages of their own, `EmptyDesk`, `Reserves` and `DayChanges`; what the new numbers mean, and what is refused
+-- before what, is in `Refused`, and of request 8 on its page.
 use Rattle.std.specs.Prelude.{◌≡◌, ◌↔◌, List, [], ℕ, ◌+◌, ◌*◌, ◌≤◌, ◌<◌, ltb, length, ℤ, pos, neg_ℤ, ◌-ℤ◌, ◌≤ℤ◌}
 use Rattle.std.specs.Int.{w32}
 use Rattle.std.proofs.Common.{to_z}
