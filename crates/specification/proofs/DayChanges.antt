@@ -25,7 +25,7 @@ use Rattle.specification.specs.Change.{changed_field, new_amount, is_in_book, am
 use Rattle.specification.specs.Change.{change, change_amounts, change_flow}
 use Rattle.specification.specs.Entry.{by_order}
 use Rattle.specification.specs.Demands.{Passing}
-use Rattle.specification.specs.DayChanges.{Changed, Held, after_change, after_changes, held_after, AsRun, Request8}
+use Rattle.specification.specs.DayChanges.{Changed, Held, after_change, after_changes, AsRun, Request8}
 use Rattle.specification.proofs.Replies.{Says, giving, said_of_given, by_reply, says_known, says_then, says_unless}
 use Rattle.specification.proofs.AmountsFiles.{amounts_say, amounts_read}
 use Rattle.specification.proofs.Checks.{check_says, check_passes}

@@ -1,6 +1,6 @@
 -- A change of one amount (document 02, request 8) is refused exactly by its causes, by the first that applies; each is a line of the table or 22.
 use mathlib.Core.Path.{◌≡◌, refl, sym}
-use mathlib.Core.Logic.{◌⊎◌, inl, inr, ⊎_elim, by_cases, ◌↔◌}
+use mathlib.Core.Logic.{inl, inr, ⊎_elim, by_cases, ◌↔◌}
 use mathlib.Core.Bool.{Bool, not}
 use mathlib.Core.List.{List, [], ◌∷◌}
 use Prim.Native.Nat.{ℕ, ◌≤◌}
