@@ -35,7 +35,7 @@ loop-again c =
     let l = c.before.before in
     let s = l.args in (
       omega arith,
-      rw l.loop-k.invariant.1 (copied_more s.units.now s.flow-1.now l.loop-k.k (omega (arith, l.requires.0)) (omega arith)),
+      rw l.loop-k.invariant.1 (copied_more s.units.now s.flow.now l.loop-k.k (omega (arith, l.requires.0)) (omega arith)),
       simp length-set l.loop-k.invariant.2,
     )
 

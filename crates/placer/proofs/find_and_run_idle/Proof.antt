@@ -79,7 +79,7 @@ module _ (c : tie.After-total-wanted) where
   spare-is : c.total-stock.result - c.total-wanted.result ≡ idle_amount (problem_of book) (lot_amount amounts) (call_amount book amounts)
   spare-is = ap₂ ◌-◌ totals.0 totals.1
 
-  calls_is : (size told).calls-1 ≡ book_calls book
+  calls_is : (size told).calls ≡ book_calls book
   unfolding problem_of
   calls_is = calls_are _ (size told) (book_read told)
 
@@ -105,7 +105,7 @@ find-then-run-requires c κs =
     let t = c.before.before.before.before in
     let k = told t in
     let few = sizes_within _ (size k) (book_read k) in
-    let held = c.with_idle-enlarged.ensures (size k).lots-1 _ _ (loaded t).remaining_of-real.ensures in
+    let held = c.with_idle-enlarged.ensures (size k).lots _ _ (loaded t).remaining_of-real.ensures in
     record { reads = book_read k; room = λ _. omega arith; fits = lots_fit _ (size k) (book_read k) _ (read k) held }
 
 returns-4 : tie.Need-returns

@@ -48,9 +48,9 @@ returns-2 : tie.Need-returns-then-flow-n
 returns-2 c =
     let k = c.before in
     let s = (start k).args in
-    let few-entries = too_short _ (size k) (book_read k) s.flow-1.now c.if-flow-n.true in
-    let short = places_17 s.book.now (problem_of s.book.now) _ _ s.flow-1.now few-entries in
-    let same = plain_is _ _ s.flow-1.now (size k) (read k) in
+    let few-entries = too_short _ (size k) (book_read k) s.flow.now c.if-flow-n.true in
+    let short = places_17 s.book.now (problem_of s.book.now) _ _ s.flow.now few-entries in
+    let same = plain_is _ _ s.flow.now (size k) (read k) in
     (short.0 ∙ sym same.0, short.1 ∙ sym same.1)
 
 find-then-run-requires : tie.Need-find_then_run-requires

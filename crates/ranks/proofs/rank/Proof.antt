@@ -21,24 +21,24 @@ returns c = let k = c.before.before.before in ((own k, c.fill.ensures), ((λ e. 
 
 all-fit-requires : tie.Need-all_fit-requires
 all-fit-requires c κs =
-    let k = own (numbers c.before.before) in
+    let k = own (numbers c) in
     (low_of c.fill-2.ensures, k.lots_few, k.calls_few, k.lots_named.at_below, k.calls_named.at_below)
 
 returns-2 : tie.Need-returns-then-all_fit
 returns-2 c =
-    let f = c.before.before.before.before in
+    let f = c.before.before in
     let k = own (numbers f) in
     ((k, f.fill-2.ensures), ((λ e. ranked_of (numbers f).requires.0 f.fill-2.ensures k (c.all_fit.ensures c.if-all_fit.true)), λ e. absurd (true≢false e)))
 
 returns-3 : tie.Need-returns-then-passes
 returns-3 c =
-    let f = c.before.before.before.before.before.before.before.before.before.before.before in
+    let f = c.before.before.before.before.before.before.before in
     let (k, fit) = c.passes.ensures c.if-passes.true in
     ((k, f.fill-2.ensures), ((λ e. ranked_of (numbers f).requires.0 f.fill-2.ensures k fit), λ e. absurd (true≢false e)))
 
 returns-4 : tie.Need-returns
 returns-4 c =
-    let k = c.before.before.before.before.before.before.before.before.before.before.before.before.before in
+    let k = c.before.before.before.before.before.before.before.before.before.before.before.before in
     ((own k, c.fill-3.ensures), ((λ e. absurd (T_of e)), λ e. k.numbers-plain.ensures.1))
 
 pub rank_spec : {M : Type 1} → statement M

@@ -18,7 +18,7 @@ find-pairs-requires c κs =
 returns : tie.Need-returns-in_default
 returns c =
     let a = c.args in
-    orders_none (find (by_slacks a.slacks.now a.n a.m)) _ _ a.buffer-1.now c.in_default.is c.find_pairs-found.ensures
+    orders_none (find (by_slacks a.slacks.now a.n a.m)) _ _ a.buffer.now c.in_default.is c.find_pairs-found.ensures
 
 write-order-requires : tie.Need-write_order-requires
 write-order-requires c κs =
@@ -32,7 +32,7 @@ write-order-requires c κs =
 returns-2 : tie.Need-returns
 returns-2 c =
     let a = c.args in
-    orders_found (find (by_slacks a.slacks.now a.n a.m)) _ _ _ a.buffer-1.now _ c.in-Found.is
+    orders_found (find (by_slacks a.slacks.now a.n a.m)) _ _ _ a.buffer.now _ c.in-Found.is
     c.find_pairs-found.ensures c.write_order.ensures
 
 pub find_by_slacks_spec : {M : Type 1} → statement M

@@ -17,7 +17,7 @@ decreases-loop lefts least i free₀ k₀ free k = 8 - k
 loop-again : tie.Need-loop-k-preserved invariant-loop decreases-loop
 loop-again c =
     let loop = c.loop-k in
-    (omega arith, free_more _ _ _ loop.k loop.free-1 _ _ loop.invariant.1 c.minus.ensures c.minus-free.ensures)
+    (omega arith, free_more _ _ _ loop.k loop.free _ _ loop.invariant.1 c.minus.ensures c.minus-free.ensures)
 
 returns : tie.Need-returns invariant-loop decreases-loop
 returns c = let e : c.loop-k.k ≡ 8 = omega arith in rw e at c.loop-k.invariant.1

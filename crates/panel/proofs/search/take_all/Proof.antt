@@ -90,16 +90,16 @@ loop-again c =
     let t = c.before in
     let f = found t in
     let l = (at-loop f).loop-count in
-    let more = f.before.before.before.before.before.before.loop-count-test.true-1 in
+    let more = f.before.before.before.before.before.before.loop-count-test.true in
     let (hi, hj) = in-8 f in
     let (_, k, marks) = l.invariant in
-    let i-in : i f < length l.lefts-1 = omega (arith, k.left.long, hi) in
+    let i-in : i f < length l.lefts = omega (arith, k.left.long, hi) in
     let minus = t.before.before.before.before.before in
     let mark = minus.mark_of.ensures in
     let (off, kept) = left_by_marks marks hi hj (λ x e. omega (arith, ((asked f).left.inside _ x e).1, (asked f).calls_few)) (λ x e. omega (arith, (k.left.inside _ x e).1, (asked f).calls_few))
     (rw mark at minus.taken_calls.ensures) minus.minus-left.ensures in
-    let out = taken_set _ l.lefts-1 i-in off kept in
-    let own = get_or-set_same l.lefts-1 (i f) _ 0 i-in in
+    let out = taken_set _ l.lefts i-in off kept in
+    let own = get_or-set_same l.lefts (i f) _ 0 i-in in
     let put = rw (← mark) at (mark_put marks hi hj out) in
     let renewed = t.renew.ensures in
     ⊎_elim

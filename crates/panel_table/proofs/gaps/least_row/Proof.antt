@@ -37,7 +37,7 @@ returns : tie.Need-returns invariant-loop decreases-loop
 returns c =
     let loop = c.loop-calls in
     let e : loop.calls ≡ 0 = omega arith in
-    row_is_least _ c.requires.0 _ _ _ c.below-calls.ensures loop.low-1 _ (rw e at loop.invariant)
+    row_is_least _ c.requires.0 _ _ _ c.below-calls.ensures loop.low _ (rw e at loop.invariant)
 
 pub least_row_spec : {M : Type 1} → statement M
 least_row_spec =
