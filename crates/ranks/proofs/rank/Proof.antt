@@ -54,8 +54,8 @@ rank_spec =
     all-fit-requires
     returns-2
     (λ c κs. search rules)
-    (λ c κs. let f = c.before.before.before.before.before.before.before.before.before in
+    (λ c κs. let f = c.before.before.before.before.before in
     let s = (numbers f).requires.0 in (low_of f.fill-2.ensures, s.lots_few, s.calls_few))
     returns-3
-    (λ c κs. let f = c.before.before.before.before.before.before.before.before.before.before.before.before in ((numbers f).requires.0.capped, f.fill-2.ensures.long))
+    (λ c κs. let f = c.before.before.before.before.before.before.before.before in ((numbers f).requires.0.capped, f.fill-2.ensures.long))
     returns-4)
