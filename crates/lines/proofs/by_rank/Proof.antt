@@ -41,7 +41,7 @@ by_rank_spec =
     (λ c κs. search rules)
     (λ c. let p = c.requires in ⊎_elim
     (λ w. by_rank_plain p.1 p.2 w.if-not-ranked.true)
-    (λ w. by_rank_all p.1 p.2 (subst⁻¹ (Below 4294967295 _) (eqb-true _ _ w.if-word-below.true) w.below.ensures))
+    (λ w. by_rank_all p.1 p.2 (subst⁻¹ (Below 4294967295 _) w.if-word-below.true w.below.ensures))
     c.then-not-ranked.branch-raw)
     (λ c. ranking_none)
     (λ c κs. search rules)

@@ -22,29 +22,29 @@ first_short c = first_line_length _ _ _ c.requires.3 c.ranges.units.fits c.range
 first-room : (c : tie.Start) → Room c.args.out.now 0 (first c)
 first-room c = record { fits = omega (arith, first_short c) }
 
-first-appended : (c : tie.After-units-and-cost)
+first-appended : (c : tie.After-units_and_cost-next)
     → let word = c.before.before.before.before in
     let start = word.before.before.before.before in
-    AppendedWithin first_most 0 start.args.out.now (first start) c.units-and-cost.result c.units-and-cost.new.0
+    AppendedWithin first_most 0 start.args.out.now (first start) c.units_and_cost-next.result c.units_and_cost-next.new.out
 unfolding line
 first-appended c =
     let word = c.before.before.before.before in
     let start = word.before.before.before.before in
-    let numbers = rw (to_z-of_z start.ranges.cost) at c.units-and-cost.ensures in
-    within_of (append_more word.word.ensures numbers) (first_short start)
+    let numbers = rw (to_z-of_z start.ranges.cost) at c.units_and_cost-next.ensures in
+    within_of (append_more word.word-first.ensures numbers) (first_short start)
 
-word-requires : tie.Need-word-requires
+word-requires : tie.Need-word-first-requires
 unfolding line
 word-requires c κs = room_first _ _ (first-room c.before.before.before)
 
-units-and-cost-requires : tie.Need-units-and-cost-requires
+units-and-cost-requires : tie.Need-units_and_cost-next-requires
 unfolding line
 units-and-cost-requires c κs =
     let word = c.before.before.before in
     let start = word.before.before.before.before in
-    rw (to_z-of_z start.ranges.cost) (room_rest _ (first-room start) word.word.ensures)
+    rw (to_z-of_z start.ranges.cost) (room_rest _ (first-room start) word.word-first.ensures)
 
-pair-lines-requires : tie.Need-pair-lines-requires
+pair-lines-requires : tie.Need-pair_lines-requires
 pair-lines-requires c κs =
     let l = c.before.before.before in
     let start = l.before.before.before.before.before.before.before.before in
@@ -54,7 +54,7 @@ pair-lines-requires c κs =
 returns : tie.Need-returns
 returns c =
     let p = c.before.before in
-    within_more (first-appended p.before.before.before.before) p.pair-lines.ensures (omega arith)
+    within_more (first-appended p.before.before.before.before) p.pair_lines.ensures (omega arith)
 
-pub answer-text-spec : {M : Type 1} → statement M
-answer-text-spec = tie.close (tie.spec word-requires units-and-cost-requires pair-lines-requires (λ c. search rules) returns)
+pub answer_text_spec : {M : Type 1} → statement M
+answer_text_spec = tie.close (tie.spec word-requires units-and-cost-requires pair-lines-requires (λ c. search rules) returns)

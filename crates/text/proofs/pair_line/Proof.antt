@@ -22,24 +22,24 @@ short c = pair_line_length _ _ _ c.requires.0 c.requires.1 c.ranges.units.fits
 room : (c : tie.Start) → Room c.args.out.now c.args.at (pair c)
 room c = record { fits = omega (arith, short c) }
 
-returns : tie.Need-returns
-returns c = rw (eq-eqb _ 0 c.if1.true) (within_of (append_none _ _) (omega arith))
+returns : tie.Need-returns-then-units-eq0
+returns c = rw (eq-eqb _ 0 c.if-units-eq0.true) (within_of (append_none _ _) (omega arith))
 
-number-requires : tie.Need-number-requires
+number-requires : tie.Need-number-next-requires
 unfolding line
 number-requires c κs = room_first _ _ (room c.before.before.before)
 
-last-two-requires : tie.Need-last-two-requires
+last-two-requires : tie.Need-last_two-requires
 unfolding line
-last-two-requires c κs = let n = c.before.before.before in room_rest _ (room n.before.before.before.before) n.number.ensures
+last-two-requires c κs = let n = c.before.before.before in room_rest _ (room n.before.before.before.before) n.number-next.ensures
 
-returns-2 : tie.Need-returns-2
+returns-2 : tie.Need-returns
 unfolding line
 returns-2 c =
     let n = c.before.before.before.before.before.before in
     let has-units = n.before.before in
-    rw (ne_eqb _ 0 has-units.if1.false)
-    (within_of (append_more n.number.ensures c.before.before.last-two.ensures) (short has-units.before.before))
+    rw (ne_eqb _ 0 has-units.if-units-eq0.false)
+    (within_of (append_more n.number-next.ensures c.last_two.ensures) (short has-units.before.before))
 
-pub pair-line-spec : {M : Type 1} → statement M
-pair-line-spec = tie.close (tie.spec returns number-requires last-two-requires (λ c. search rules) returns-2)
+pub pair_line_spec : {M : Type 1} → statement M
+pair_line_spec = tie.close (tie.spec returns number-requires last-two-requires (λ c. search rules) returns-2)

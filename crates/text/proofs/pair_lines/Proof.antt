@@ -11,11 +11,11 @@ use Rattle.text.proofs.Appending.{append_none, within_of, within_more}
 use Rattle.text.proofs.pair_lines.Statement.{statement}
 use Rattle.text.proofs.pair_lines.Tie as tie
 
-abbrev invariant-loop : tie.invariant-loop
+abbrev invariant-loop : tie.invariant-loop-k
 invariant-loop out₀ at n m flow cells next₀ k₀ out next k =
     (k ≤ cells) × (cells ≤ 1024) × AppendedWithin (pair_most * k) at out₀ (pair_lines m flow k) next out
 
-abbrev decreases-loop : tie.decreases-loop
+abbrev decreases-loop : tie.decreases-loop-k
 decreases-loop out₀ at n m flow cells next₀ k₀ out next k = cells - k
 
 cells-most : (c : tie.Start invariant-loop decreases-loop) → c.args.n * c.args.m ≤ 1024
@@ -27,37 +27,37 @@ cell_in n zero k l = absurd (not-suc-le-zero (rw (mul-zero n) at l))
 cell_in n (suc m) k l = ((div-lt_iff_lt-mul (zero-lt-suc m)).1 l, mod-lt k (zero-lt-suc m))
 
 -- in a turn the entry at hand is that of a lot and a call
-cell : (c : tie.In-loop invariant-loop decreases-loop)
-    → (c.before.loop.k / c.before.before.before.args.m < c.before.before.before.args.n)
-    × (c.before.loop.k % c.before.before.before.args.m < c.before.before.before.args.m)
+cell : (c : tie.In-loop-k invariant-loop decreases-loop)
+    → (c.loop-k.k / c.args.m < c.args.n)
+    × (c.loop-k.k % c.args.m < c.args.m)
 cell c = cell_in _ _ _ (omega arith)
 
-loop-holds : tie.Need-loop-init invariant-loop decreases-loop
+loop-holds : tie.Need-loop-k-init invariant-loop decreases-loop
 unfolding pair_lines
 loop-holds c = (omega arith, cells-most c.before, within_of (append_none _ _) (omega arith))
 
-pair-line-requires : tie.Need-pair-line-requires invariant-loop decreases-loop
+pair-line-requires : tie.Need-pair_line-next-requires invariant-loop decreases-loop
 pair-line-requires c κs =
-    let (lot, call) = cell c.before.before in
+    let (lot, call) = cell c.before.before.before in
     (omega (arith, lot), omega (arith, call), omega arith)
 
-loop-again : tie.Need-loop-preserved invariant-loop decreases-loop
+loop-again : tie.Need-loop-k-preserved invariant-loop decreases-loop
 unfolding pair_lines
 loop-again c =
     let p = c.before.before in (
       omega arith,
       omega arith,
-      rw add-one (within_more p.before.before.before.before.loop.invariant.2 p.pair_line.ensures (omega arith)),
+      rw add-one (within_more p.loop-k.invariant.2 p.pair_line-next.ensures (omega arith)),
     )
 
 returns : tie.Need-returns invariant-loop decreases-loop
 returns c =
     let start = c.before.before.before in
-    let e : c.before.loop.k ≡ start.args.n * start.args.m = omega arith in
-    record { appended = rw e at c.before.loop.invariant.2.appended; within = omega arith }
+    let e : c.loop-k.k ≡ start.args.n * start.args.m = omega arith in
+    record { appended = rw e at c.loop-k.invariant.2.appended; within = omega arith }
 
-pub pair-lines-spec : {M : Type 1} → statement M
-pair-lines-spec =
+pub pair_lines_spec : {M : Type 1} → statement M
+pair_lines_spec =
     tie.close
     (tie.spec
     invariant-loop

@@ -18,19 +18,19 @@ short c = refused_line_length refused_word _ (omega arith) c.ranges.k.fits
 room : (c : tie.Start) → Room c.args.out.now 0 (line refused_word (decimal c.args.k ∷ []))
 room c = record { fits = omega (arith, short c) }
 
-last-field-requires : tie.Need-last-field-requires
+last-field-requires : tie.Need-last_field-requires
 unfolding line
 last-field-requires c κs =
     let word = c.before.before.before in
-    room_rest _ (room word.before.before.before.before) word.word.ensures
+    room_rest _ (room word.before.before.before.before.before) word.word-next.ensures
 
 returns : tie.Need-returns
 unfolding line
 returns c =
     let word = c.before.before.before.before.before.before in
-    within_of (append_more word.word.ensures c.before.before.last-field.ensures) (short word.before.before.before.before)
+    within_of (append_more word.word-next.ensures c.last_field.ensures) (short word.before.before.before.before.before)
 
-pub refusal-spec : {M : Type 1} → statement M
-refusal-spec =
+pub refusal_spec : {M : Type 1} → statement M
+refusal_spec =
     tie.close
     (tie.spec (λ c. search rules) (λ c κs. record { fits = omega arith }) last-field-requires (λ c. search rules) returns)

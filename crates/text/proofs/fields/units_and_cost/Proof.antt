@@ -13,7 +13,7 @@ module _ (c : tie.After-field-next) where
   abbrev start : tie.Start
   start = c.before.before.before
 
-  after-units : Room c.field-next.new.0 c.field-next.result ((32 ∷ []) ++ (decimalℤ start.args.cost ++ (10 ∷ [])))
+  after-units : Room c.field-next.new.out c.field-next.result ((32 ∷ []) ++ (decimalℤ start.args.cost ++ (10 ∷ [])))
   unfolding line
   after-units = room_rest _ start.requires c.field-next.ensures
 
@@ -21,15 +21,15 @@ module _ (c : tie.After-put-space) where
   abbrev units : tie.After-field-next
   units = c.before.before.before.before
 
-  after-space : Room c.put-space.new.0 c.put-space.result (decimalℤ (start units).args.cost ++ (10 ∷ []))
+  after-space : Room c.put-space.new.out c.put-space.result (decimalℤ (start units).args.cost ++ (10 ∷ []))
   after-space = room_rest _ (after-units units) c.put-space.ensures
 
 module _ (c : tie.After-signed_number-end) where
   abbrev space : tie.After-put-space
   space = c.before.before.before.before
 
-  cost-appended : Appended space.put-space.result space.put-space.last.0 (decimalℤ (start (units space)).args.cost) c.signed_number-end.result
-      c.signed_number-end.new.0
+  cost-appended : Appended space.put-space.result space.put-space.new.out (decimalℤ (start (units space)).args.cost) c.signed_number-end.result
+      c.signed_number-end.new.out
   cost-appended = rw (to_z-of_z (start (units space)).ranges.cost) at c.signed_number-end.ensures
 
 field-requires : tie.Need-field-next-requires
