@@ -33,4 +33,4 @@ returns c =
 pub refusal_spec : {M : Type 1} → statement M
 refusal_spec =
     tie.close
-    (tie.spec (λ c. search rules) (λ c κs. record { fits = omega arith }) last-field-requires (λ c. search rules) returns)
+    (tie.spec (λ c κs. record { fits = omega arith }) last-field-requires (λ c. search rules) returns)

@@ -68,11 +68,11 @@ pub render_spec : {M : Type 1} → statement M
 render_spec =
     tie.close
     (tie.spec
-    (λ c. search rules) (λ c. search rules)
+    (λ c. search rules)
     answer-text-requires
-    (λ c. search rules) (λ c. search rules)
+    (λ c. search rules)
     answer-text-requires-2
-    (λ c. search rules) (λ c. search rules)
+    (λ c. search rules)
     answer-text-requires-3
     (λ c. search rules) (λ c κs. search rules) (λ c. search rules)
     (λ c κs. omega (arith, c.before.before.before.before.before.before.requires.1))

@@ -17,7 +17,7 @@ hindered-told : (low high : Bool) → (low && high) ≡ false → Hindered (not 
 hindered-told low high e = rw e
 
 -- the tests are at the ends
-module _ (c : tie.After-fits3) where
+module _ (c : tie.After-fits-high) where
   abbrev bottom : tie.After-wide-bottom
   bottom = c.before.before
 
@@ -39,10 +39,10 @@ module _ (c : tie.After-fits3) where
   abbrev fars : List ℕ
   fars = first.args.fars.now
 
-  tells : let a = first.args in corners_tell c.before.fits-high.result c.fits3.result
+  tells : let a = first.args in corners_tell c.fits-low.result c.fits-high.result
       ≡ corners_tell (fit (get_or fars (32 + a.call.0) 0) (get_or nears a.lot.0 0)) (fit (get_or nears (32 + a.call.0) 0) (get_or fars a.lot.0 0))
-  tells = ap₂ corners_tell (c.before.fits-high.ensures ∙ ap₂ fit bottom.wide-bottom.ensures first.wide-first.ensures)
-      (c.fits3.ensures ∙ ap₂ fit top.wide-top.ensures last.wide-last.ensures)
+  tells = ap₂ corners_tell (c.fits-low.ensures ∙ ap₂ fit bottom.wide-bottom.ensures first.wide-first.ensures)
+      (c.fits-high.ensures ∙ ap₂ fit top.wide-top.ensures last.wide-last.ensures)
 
 pub try_corners_spec : {M : Type 1} → statement M
 try_corners_spec =
@@ -61,5 +61,5 @@ try_corners_spec =
     (λ c κs. search rules)
     (λ c κs. search rules)
     (λ c. sym (ap₂ corners_tell c.if-low.true c.if-high.true) ∙ tells c.before.before)
-    (λ c. hindered-told c.fits-high.result c.before.fits3.result (⊎_elim (λ w. ap₂ ◌&&◌ w.if-low.true w.if-high.false) (λ w. ap (λ (b : Bool). b && c.before.fits3.result) w.if-low.false) c.else-low.branch-raw)
+    (λ c. hindered-told c.fits-low.result c.fits-high.result (⊎_elim (λ w. ap₂ ◌&&◌ w.if-low.true w.if-high.false) (λ w. ap (λ (b : Bool). b && c.fits-high.result) w.if-low.false) c.else-low.branch-raw)
     ∙ tells c.before))

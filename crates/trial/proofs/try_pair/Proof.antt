@@ -31,7 +31,7 @@ returns-2 : tie.Need-returns-then-without-eq0 invariant-loop decreases-loop
 returns-2 c = let p = c.requires in (passes_last p.0 c.without.ensures c.if-without-eq0.true, p.1)
 
 abbrev start : tie.After-minus-lots invariant-loop decreases-loop → tie.Start invariant-loop decreases-loop
-start c = c.before.before.before.before.before.before.before.before.before.before.before.before
+start c = c.before.before.before.before.before.before.before.before.before.before.before.before.before.before.before.before
 
 loop-holds : tie.Need-loop-lots-init invariant-loop decreases-loop
 loop-holds c =
