@@ -63,7 +63,7 @@ module _ {ranked : Bool} {slacks : List ℕ} {n m : ℕ} {names ranks eligible :
   }
     where
       raised_le : (b : Bool) (v : ℕ) → cond b 0 (v + suc cost_top) ≤ v + suc cost_top
-      raised_le b v = elim b [ true ↦ omega arith | false ↦ omega arith ]
+      raised_le b v = elim b as (λ k. cond k 0 (v + suc cost_top) ≤ v + suc cost_top) [ true ↦ omega arith | false ↦ omega arith ]
 
   module _ {lines nears fars compared : List ℕ} (lined : Lined names ranks eligible lines) (ended : Ended names lines nears fars)
       (f : Compared ranked slacks compared) where

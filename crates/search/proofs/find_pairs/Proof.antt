@@ -41,8 +41,7 @@ loop-holds c =
 
 next-pair-requires : tie.Need-next_pair-next-requires invariant-loop decreases-loop
 next-pair-requires c κs =
-    let top = c.before.before.before.before.before.before.before.before.before.before.before.before in
-    ((record { lots = _; calls = _; table = (start top).requires.0 }, top.loop.invariant.4), top.loop.invariant.2)
+    ((record { lots = _; calls = _; table = c.requires.0 }, c.loop-count.invariant.4), c.loop-count.invariant.2)
 
 -- what is asked for the next pair
 module _ (c : tie.After-next_pair-next invariant-loop decreases-loop) where
@@ -88,7 +87,7 @@ loop-again c =
     let t = q.take_pair-again.ensures in
     let left = standing_then t f.lot_in f.call_in s in
     let marks = marks_then t f.lot_in f.call_in inv.3 in (
-      c.put.auto.0 ∙ inv.0,
+      c.put.auto.pairs ∙ inv.0,
       going_next inv.1 (more (asked k)) _ (next_of_pair begin.requires.0 s.left _ _ f) _ (gone_agrees t.from_lot (by_slacks begin.args.slacks.now begin.args.n begin.args.m)) _ c.put.ensures,
       left,
       marks,

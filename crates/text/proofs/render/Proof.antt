@@ -75,7 +75,7 @@ render_spec =
     (λ c. search rules)
     answer-text-requires-3
     (λ c. search rules) (λ c κs. search rules) (λ c. search rules)
-    (λ c κs. omega (arith, c.before.before.before.before.before.before.requires.1))
+    (λ c κs. omega (arith, c.requires.1))
     (λ c. search rules)
     returns
     (λ c. search rules)

@@ -1,6 +1,5 @@
 -- `search::taking::lower` meets its contract, by its two cases.
 use borrow.Author.Rules.{rules}
-use borrow.Author.Tests.{not-true, not-false}
 use Rattle.search.proofs.taking.lower.Statement.{statement}
 use Rattle.search.proofs.taking.lower.Tie as tie
 
@@ -12,5 +11,5 @@ lower_spec =
     (λ c. search rules)
     (λ c. search rules)
     (λ c. search rules)
-    (λ c. rw (not-true c.args.ranked c.if-not-ranked.true))
-    (λ c. rw (not-false c.args.ranked c.if-not-ranked.false)))
+    (λ c. rw c.if-not-ranked.true)
+    (λ c. rw c.if-not-ranked.false))

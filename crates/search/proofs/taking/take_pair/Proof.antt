@@ -6,23 +6,19 @@ use Rattle.search.proofs.taking.take_pair.Tie as tie
 
 returns : tie.Need-returns
 returns c =
-    let high = c.before in
-    let low = high.before.before.before.before.before in
-    let lowered = low.before.before.before.before.before in
-    let lost = lowered.before.before in
-    let e = lost.lose.ensures in
+    let e = c.lose.ensures in
     record {
       from_lot = e.0;
       lined = e.1.0;
       ended = e.1.1.0;
       nears_kept = e.1.1.1.0;
       fars_kept = e.1.1.1.1;
-      lowered = lowered.lower.ensures;
+      lowered = c.lower.ensures;
       mark_put = refl;
       low_again = _;
       high_again = _;
-      low_unmarked = low.unmark.ensures;
-      high_unmarked = high.unmark-in_high.ensures;
+      low_unmarked = c.unmark-in_low.ensures;
+      high_unmarked = c.unmark-in_high.ensures;
       asked = c.either.ensures;
     }
 
