@@ -46,7 +46,7 @@ module _ (c : tie.After-find_by-found) where
   start = fits.before.before.before
 
   abbrev left : List ℕ
-  left = c.find_by-found.new.1.1.1.1.0
+  left = c.find_by-found.new.buffer
 
 returns-2 : tie.Need-returns-in_default
 returns-2 c a b holds =

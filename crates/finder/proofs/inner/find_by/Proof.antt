@@ -24,7 +24,7 @@ book c = (start c).args.book.now
 
 -- the problem that the table states at first
 abbrev stated : tie.After-fill_slacks-total → Problem
-stated c = by_slacks c.fill_slacks-total.new.1.1.1.0 (start c).args.n (start c).args.m
+stated c = by_slacks c.fill_slacks-total.new.slacks (start c).args.n (start c).args.m
 
 add-idle-requires : tie.Need-add_idle-requires
 add-idle-requires c κs =
@@ -38,7 +38,7 @@ module _ (c : tie.After-add_idle) where
   filled = c.before.before.before.before
 
   abbrev enlarged : Problem
-  enlarged = by_slacks c.add_idle.new.0 (start filled).args.n ((start filled).args.m + 1)
+  enlarged = by_slacks c.add_idle.new.slacks (start filled).args.n ((start filled).args.m + 1)
 
   same-idle : Same (searched (start filled).args.idle (book filled)) enlarged
   same-idle = subst⁻¹ (λ (b : Bool). Same (searched b (book filled)) enlarged) c.if-idle.true
