@@ -45,15 +45,13 @@ pairs_found : (S : List Pair) (s : List ℕ) → take (2 * length S) s ≡ pair_
 pairs_found S s e = ap (pairs (length S)) (sym (take-append-drop (2 * length S) s))
     ∙ ap (λ (l : List ℕ). pairs (length S) (l ++ drop (2 * length S) s)) e ∙ pairs_back S (drop (2 * length S) s)
 
--- the opening and the copy make the file; the copy is as `bytes::copy` tells it, of the pairs' bytes to the part after the opening
+-- the opening and the copy make the file: the copy is of the pairs' bytes, to the part after the opening
 pub file_written : (count : ℕ) (src before mid part : List ℕ) → count ≤ 1024 → 2 * count ≤ length src → 7 ≤ length before
-    → mid ≡ write_opening order_mark count before
-    → (let from = take (2 * count) src in part ≡ take (length from) from ++ drop (length from) (take (length mid - 7) (drop 7 mid)))
-    → put_mid 7 (length mid - 7) mid part ≡ order_file (pairs count src) ++ drop (7 + 2 * count) before
+    → mid ≡ write_opening order_mark count before → part ≡ take (2 * count) src
+    → put_mid 7 (2 * count) mid part ≡ order_file (pairs count src) ++ drop (7 + 2 * count) before
 file_written count src before mid part few h seven opened copied =
     let high : count / 256 % 256 ≡ count / 256 = omega arith in
-    rw (copied, ← length-drop, take-length (drop 7 mid), take-length, drop-length, append-nil, length-take-le)
-    (rw (opened, le-ltb (length before) 7 seven, high, pairs_length, pairs_bytes, ← drop-drop))
+    rw (copied, opened, le-ltb (length before) 7 seven, high, pairs_length, pairs_bytes, ← drop-drop) refl
 
 -- the whole answer, where the search's own is known; an order has as many pairs as are eligible
 pub counts_found : (P : Problem) (o : Option (List Pair)) (r : Search) (count : ℕ) (bytes : List ℕ) → find P ≡ o → r ≡ Found count → Finds o r bytes

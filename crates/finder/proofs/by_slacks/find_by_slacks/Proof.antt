@@ -27,7 +27,7 @@ write-order-requires c κs =
     let f = c.find_pairs-found in
     let e = counts_found (by_slacks a.slacks.now a.n a.m) _ _ _ _ refl c.in-Found.is f.ensures in
     let few = size_few p.0 in
-    (omega arith, omega (arith, f.auto.1.1.1.1.1.1.1.1.1.0), omega (arith, p.2, p.3))
+    (omega arith, omega (arith, f.auto.pairs), omega (arith, p.2, p.3))
 
 returns-2 : tie.Need-returns
 returns-2 c =
