@@ -37,10 +37,10 @@ module _ (t : tie.After-take_all-taken) where
   start = t.before.before.before.before.before.before.before.before.before.before.before
 
   abbrev slacks : List ℕ
-  slacks = t.fill.last.1.1.0
+  slacks = t.fill.new.slacks
 
   abbrev units : List ℕ
-  units = t.take_all-taken.last.1.1.1.1.1.1.0
+  units = t.take_all-taken.new.units
 
   abbrev book : List ℕ
   book = start.args.book.now
@@ -48,7 +48,7 @@ module _ (t : tie.After-take_all-taken) where
   abbrev amounts : List ℕ
   amounts = start.args.amounts.now
 
-  filled : Filled book start.args.n slacks t.fill.last.1.1.1.0
+  filled : Filled book start.args.n slacks t.fill.new.eligible
   filled = t.fill.ensures
 
   taken-all : t.take_all-taken.result.all ≡ true

@@ -38,7 +38,7 @@ module _ (c : tie.In-Pair invariant-loop decreases-loop) where
   abbrev j : ℕ
   j = c.in-Pair.call.0
 
-  asked : Searching start.args.slacks.now start.args.n start.args.m start.args.total start.args.t5 start.args.remaining
+  asked : Searching start.args.slacks.now start.args.n start.args.m start.args.total start.args.eligible start.args.remaining
   asked = start.requires.0
 
   free : FirstFree at-loop.loop-count.lefts at-loop.loop-count.least i j
@@ -90,7 +90,7 @@ loop-again c =
     let t = c.before in
     let f = found t in
     let l = (at-loop f).loop-count in
-    let more = f.before.before.before.before.before.before.loop-count-test.true in
+    let more = f.loop-count-test.true in
     let (hi, hj) = in-8 f in
     let (_, k, marks) = l.invariant in
     let i-in : i f < length l.lefts = omega (arith, k.left.long, hi) in
