@@ -1,6 +1,6 @@
 -- Laws of ranks. Where the gaps of a table of costs are filled and neighbours by the ranks fit, the problem is ranked, as transport has it
 -- (`ranked_of`). Numbers as they are can be ranks too (`plain_numbered`).
-use Rattle.std.proofs.Common.{◌≡◌, ℕ, suc, ◌+◌, ◌*◌, ◌<◌, ◌≤◌, true, T, List, length, get_or, ◌∙◌, subst, ap₂, arith, rules, eq-eqb, ne_eqb}
+use Rattle.std.proofs.Common.{◌≡◌, ℕ, suc, ◌+◌, ◌*◌, ◌<◌, ◌≤◌, true, T, List, get_or, ◌∙◌, subst, ap₂, arith, rules, eq-eqb, ne_eqb}
 use mathlib.Core.Logic.{by_cases}
 use native.Mathlib.Decide.{ℕ_discrete, dec_lt}
 use lib.ListN.{get_or-eq_default}

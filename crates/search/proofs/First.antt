@@ -8,7 +8,7 @@ use native.Mathlib.Decide.{dec_lt}
 use native.Mathlib.Omega.{arith}
 use borrow.Author.Tests.{eq-eqb, eqb-true, not-true, not-false}
 use lib.Dec.{eqb}
-use lib.ListN.{length, get_or, replicate, length-replicate, get_or-eq_default}
+use lib.ListN.{get_or, replicate, length-replicate, get_or-eq_default}
 use Rattle.specification.specs.Costs.{cost_top}
 use Rattle.specification.specs.Book.{bit}
 use Rattle.book.specs.Table.{entry}

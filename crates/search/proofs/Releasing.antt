@@ -1,5 +1,5 @@
 -- The marks with a call taken back, lot by lot: those of the lots passed are, and no other.
-use mathlib.Core.Path.{◌≡◌, refl, sym, ap, ◌∙◌, subst, fun_ext}
+use mathlib.Core.Path.{◌≡◌, refl, ap, ◌∙◌, subst, fun_ext}
 use mathlib.Core.Logic.{by_cases}
 use mathlib.Core.Bool.{Bool, true, not, ◌&&◌, ◌||◌, and-true, and-false, and-not_self, or-false}
 use mathlib.Core.List.{List}

@@ -11,7 +11,6 @@ use Rattle.transport.specs.Problem.{Problem}
 use Rattle.transport.specs.Greedy.{Pair}
 use Rattle.transport.specs.Order.{OrderOf}
 use Rattle.transport.proofs.Orders.Lists.{Lists, lists_of_order}
-use Rattle.specification.specs.declared.Refusal.TheVariants as refusal
 use Rattle.specification.specs.Reply.{gives, refuses}
 use Rattle.specification.specs.Bytes.{order_mark, read_opening}
 use Rattle.specification.specs.Book.{read_book, problem_of}

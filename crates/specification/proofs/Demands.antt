@@ -15,7 +15,7 @@ use Rattle.transport.proofs.Laws.Tests.{T_false}
 use Rattle.transport.proofs.Orders.Length.{order_length_lem}
 use Rattle.transport.proofs.Greedy.Converse.{monge_of_good}
 use Rattle.transport.proofs.Finder.Find.{find_is_order}
-use Rattle.specification.specs.Reply.{Reply, gives, refuses, ◌>>=◌, Outcome}
+use Rattle.specification.specs.Reply.{Reply, gives, refuses, Outcome}
 use Rattle.specification.specs.Costs.{cost_base}
 use Rattle.specification.specs.Book.{book_version, problem_of, costs_of, lot_costs}
 use Rattle.specification.specs.OrderFile.{order_count, order_pairs, order_file}

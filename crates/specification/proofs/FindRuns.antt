@@ -8,7 +8,6 @@ use lib.Dec.{ltb→lt, nltb→le}
 use lib.ListN.{length}
 use Rattle.transport.specs.Greedy.{Pair}
 use Rattle.transport.specs.Finder.{find}
-use Rattle.specification.specs.declared.Refusal.TheVariants as refusal
 use Rattle.specification.specs.Reply.{Reply, gives, refuses, ◌>>=◌, refuse_if, afterwards, Size, Outcome}
 use Rattle.specification.specs.Book.{read_book, problem_of, costs_of}
 use Rattle.specification.specs.Amounts.{read_amounts}

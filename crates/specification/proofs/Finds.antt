@@ -17,7 +17,6 @@ use Rattle.transport.proofs.Greedy.Optimal.{good_of_monge}
 use Rattle.transport.proofs.Greedy.Converse.{monge_of_good}
 use Rattle.transport.proofs.Greedy.Signed.{signed_good}
 use Rattle.transport.proofs.Finder.Find.{find_is_order, find_is_monge, find_none}
-use Rattle.specification.specs.declared.Refusal.TheVariants as refusal
 use Rattle.specification.specs.Reply.{gives, refuses}
 use Rattle.specification.specs.Book.{read_book, problem_of}
 use Rattle.specification.specs.OrderFile.{order_file}

@@ -19,7 +19,6 @@ use Rattle.transport.proofs.Greedy.Idle.{idle_kept}
 use Rattle.transport.proofs.Greedy.Signed.{idle_lifts, signed_idle_least}
 use Rattle.transport.proofs.Finder.Find.{find_is_order, find_is_monge}
 use Rattle.transport.proofs.Theorems.Idle.{idle_most, idle_covers_iff, idle_spends_iff}
-use Rattle.specification.specs.declared.Refusal.TheVariants as refusal
 use Rattle.specification.specs.Reply.{Reply, gives, refuses, Size, Outcome}
 use Rattle.specification.specs.Costs.{cost_base}
 use Rattle.specification.specs.Book.{book_version, book_calls, problem_of, costs_of}

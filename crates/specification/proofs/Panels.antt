@@ -4,7 +4,6 @@ use mathlib.Core.Bool.{Bool, true, false, ◌||◌}
 use mathlib.Core.List.{List, []}
 use Prim.Native.Nat.{ℕ}
 use lib.ListN.{length}
-use Rattle.specification.specs.declared.Refusal.TheVariants as refusal
 use Rattle.specification.specs.Reply.{Reply, gives, refuses, Size, Outcome}
 use Rattle.specification.specs.Book.{book_lots, book_calls, read_head, read_book}
 use Rattle.specification.specs.Amounts.{read_amounts}

@@ -21,7 +21,6 @@ use Rattle.transport.proofs.Greedy.Optimal.{greedy_most_units, good_of_monge}
 use Rattle.transport.proofs.Greedy.Signed.{signed_least_cost}
 use Rattle.transport.proofs.Theorems.{greedy_spends_iff}
 use Rattle.transport.proofs.Theorems.Covered.{greedy_covers_iff}
-use Rattle.specification.specs.declared.Refusal.TheVariants as refusal
 use Rattle.specification.specs.Reply.{gives, refuses, Size, Outcome}
 use Rattle.specification.specs.Costs.{cost_base}
 use Rattle.specification.specs.Book.{book_version, problem_of, costs_of}

@@ -1,7 +1,6 @@
 // The words of document 01 as types: lot and call numbers, the refusals, and the answer of each entry point.
 #![tactic(auto)]
 
-
 // "Costs are .. 0 to 1,000,000" and "Amounts are .. 0 to 1,000,000,000" (Words): the highest of each. In version 2 of a book costs are
 // "from -1,000,000 to 1,000,000" (document 02, request 4).
 pub const COST_LIMIT: u32 = 1_000_000;

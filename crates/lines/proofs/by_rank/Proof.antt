@@ -1,9 +1,8 @@
 -- `lines::by_rank` meets its contract. The invariant: the line has the ranks of those passed (`Ranking`).
-use mathlib.Core.Path.{◌≡◌, subst⁻¹}
+use mathlib.Core.Path.{subst⁻¹}
 use mathlib.Core.Logic.{⊎_elim}
 use native.Mathlib.Omega.{arith}
 use borrow.Author.Rules.{rules}
-use borrow.Author.Tests.{eqb-true, not-true}
 use Prim.Native.Nat.{◌<◌}
 use Rattle.words.specs.Words.{Below}
 use Rattle.lines.proofs.Laws.{by_rank_plain, by_rank_all, Ranking, ranking_none, ranking_more, ranking_all}

@@ -1,6 +1,5 @@
 -- `ranks::passes` meets its contract: the names that are checked are in range.
 use Rattle.std.proofs.Common.{zero-add, rules}
-use borrow.Author.Tests.{not-false}
 use Rattle.transport.proofs.Laws.Tests.{T_of}
 use Rattle.ranks.specs.Numbered.{Numbered}
 use Rattle.ranks.proofs.passes.Statement.{statement}

@@ -1,6 +1,6 @@
 -- `walk::walk` meets its contract. The invariant: the words and the array are those of the pairs from p on, and the answer so far is
 -- the lowest place from p on that fails.
-use Rattle.std.proofs.Common.{◌≡◌, ℕ, ◌+◌, ◌-◌, ◌<◌, ◌≤◌, Bool, true, false, cond, not, eqb, get_or, set, ap, arith, rules}
+use Rattle.std.proofs.Common.{◌≡◌, ℕ, ◌+◌, ◌-◌, ◌<◌, ◌≤◌, Bool, true, false, cond, eqb, get_or, set, arith, rules}
 use lib.Bits.{bit_and, bit_or}
 use borrow.Author.Tests.{eq-eqb, ne_eqb}
 use Rattle.book.specs.Table.{entry}

@@ -4,7 +4,6 @@ use mathlib.Core.Bool.{true}
 use Prim.Native.Nat.{◌<◌}
 use native.Mathlib.Omega.{arith}
 use borrow.Author.Rules.{rules}
-use borrow.Author.Tests.{not-true, not-false}
 use Rattle.book.specs.Table.{admits_by}
 use Rattle.walk.proofs.Eligibles.{admitted_in}
 use Rattle.order.proofs.Meeting.{met_not_eligible, met_before, met_noted}

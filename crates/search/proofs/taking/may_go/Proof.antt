@@ -2,7 +2,7 @@
 use mathlib.Core.Path.{sym, ap, ◌∙◌}
 use mathlib.Core.Bool.{not, true≢false}
 use borrow.Author.Rules.{rules}
-use borrow.Author.Tests.{eqb-false, not-false}
+use borrow.Author.Tests.{eqb-false}
 use Rattle.search.proofs.taking.may_go.Statement.{statement}
 use Rattle.search.proofs.taking.may_go.Tie as tie
 

@@ -1,10 +1,9 @@
 -- `search::taking::release` meets its contract. The invariant: the marks of the lots passed are taken back (`Releasing`).
-use mathlib.Core.Path.{◌≡◌, ◌∙◌}
+use mathlib.Core.Path.{◌∙◌}
 use mathlib.Core.Logic.{⊎_elim}
 use Prim.Native.Nat.{◌<◌}
 use borrow.Author.Rules.{rules}
 use native.Mathlib.Omega.{arith}
-use lib.ListN.{length}
 use Rattle.search.proofs.Releasing.{Releasing, releasing_none, releasing_more, releasing_all}
 use Rattle.search.proofs.taking.release.Statement.{statement}
 use Rattle.search.proofs.taking.release.Tie as tie

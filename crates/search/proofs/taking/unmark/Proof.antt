@@ -1,5 +1,4 @@
 -- `search::taking::unmark` meets its contract: what its callees ensure is what `unmarked` asks.
-use native.Mathlib.Omega.{arith}
 use borrow.Author.Rules.{rules}
 use lib.ListN.{length-set}
 use Rattle.search.proofs.Unmarking.{unmarked}

@@ -1,6 +1,5 @@
 -- `text::fields::number` meets its contract: by the law of digits, those of the tenth are appended, and then the last digit.
-use Rattle.std.proofs.Common.{◌≡◌, [], ◌∷◌, ◌+◌, ◌%◌, ◌/◌, ◌<◌, ◌++◌, arith}
-use Rattle.specification.specs.Text.{decimal}
+use Rattle.std.proofs.Common.{arith}
 use Rattle.text.proofs.Appending.{append_more, room_first, room_rest}
 use Rattle.text.proofs.Decimals.{digits_one, decimal_more}
 use Rattle.text.proofs.fields.+number.Goals as goal
