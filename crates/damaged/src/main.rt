@@ -8,6 +8,7 @@ mod zero_counts;
 
 use book::Cost;
 use specification::{Call, Counts, Lot, Refusal};
+use std::io;
 
 // An example's name is its number and a thousand; a label's is its number.
 const F13: u64 = 1013;
@@ -76,219 +77,244 @@ fn first(s: &[u8], len: usize) -> &[u8] {
     s
 }
 
-fn number(x: usize) {
-    io::write_all(1, b" ");
-    io::print_decimal(1, x as u64);
+fn number(rt: &impl Print, x: usize) -> io::Result<()> {
+    rt.write_all(b" ")?;
+    rt.print(x as u64)
 }
 
 // A refusal's number and the values returned with it.
-fn refused(r: Refusal) {
-    io::write_all(1, b" REFUSED");
-    number(files::number(r) as usize);
+fn refused(rt: &impl Print, r: Refusal) -> io::Result<()> {
+    rt.write_all(b" REFUSED")?;
+    number(rt, files::number(r) as usize)?;
     match r {
-        Refusal::BitOutside(lot) => {
-            number(lot.0);
-        }
+        Refusal::BitOutside(lot) => { number(rt, lot.0) }
         Refusal::CostTooHigh(lot, call) => {
-            number(lot.0);
-            number(call.0);
+            number(rt, lot.0)?;
+            number(rt, call.0)
         }
-        _ => {}
+        _ => Ok(()),
     }
 }
 
-fn name(point: u64) {
+fn name(rt: &impl Print, point: u64) -> io::Result<()> {
     if 1000 < point {
-        io::write_all(1, b"F");
-        io::print_decimal(1, point - 1000);
+        rt.write_all(b"F")?;
+        rt.print(point - 1000)
     } else {
-        io::write_all(1, b"P");
-        io::print_decimal(1, point);
+        rt.write_all(b"P")?;
+        rt.print(point)
     }
 }
 
 // A case of a reading: its name, and n and m or the refusal.
-fn case(point: u64, counts: Counts) {
-    name(point);
+fn case(rt: &impl Print, point: u64, counts: Counts) -> io::Result<()> {
+    name(rt, point)?;
     match counts {
         Counts::Are(n, m) => {
-            number(n);
-            number(m);
+            number(rt, n)?;
+            number(rt, m)?;
         }
         Counts::Refused(r) => {
-            refused(r);
+            refused(rt, r)?;
         }
     }
-    io::write_all(1, b"\n");
+    rt.write_all(b"\n")
 }
 
 // A book's first `len` bytes.
-fn book(point: u64, n: u8, m: u8, len: usize, a: u32, b: u32, c: u32) {
+fn book(
+    rt: &impl Print,
+    point: u64,
+    n: u8,
+    m: u8,
+    len: usize,
+    a: u32,
+    b: u32,
+    c: u32,
+) -> io::Result<()> {
     let file = file_of(&files::BOOK_MARK, n, m, a, b, c);
-    case(point, book::read_book(first(&file, len)));
+    case(rt, point, book::read_book(first(&file, len)))
 }
 
 // A book of a version, 1 by 1, with a cost of these 32 bits.
-fn of_version(point: u64, version: u16, cost: u32) {
+fn of_version(rt: &impl Print, point: u64, version: u16, cost: u32) -> io::Result<()> {
     let file = single_of(version, cost);
-    case(point, book::read_book(first(&file, 15)));
+    case(rt, point, book::read_book(first(&file, 15)))
 }
 
 // The first `len` bytes of amounts, with a book.
-fn amounts(point: u64, book: &[u8], n: u8, m: u8, len: usize, a: u32, b: u32) {
+fn amounts(
+    rt: &impl Print,
+    point: u64,
+    book: &[u8],
+    n: u8,
+    m: u8,
+    len: usize,
+    a: u32,
+    b: u32,
+) -> io::Result<()> {
     let file = file_of(&files::AMOUNTS_MARK, n, m, a, b, 0);
-    case(point, amounts::read_amounts(book, first(&file, len)));
+    case(rt, point, amounts::read_amounts(book, first(&file, len)))
 }
 
 // The stretch of a lot's costs: how many bytes it has, and its first cost.
-fn costs(point: u64, book: &[u8], lot: Lot) {
+fn costs(rt: &impl Print, point: u64, book: &[u8], lot: Lot) -> io::Result<()> {
     let stretch = book::lot_costs(book, lot);
-    name(point);
-    io::write_all(1, b" COSTS");
-    number(stretch.len());
-    number(files::u32_at(stretch, 0) as usize);
-    io::write_all(1, b"\n");
+    name(rt, point)?;
+    rt.write_all(b" COSTS")?;
+    number(rt, stretch.len())?;
+    number(rt, files::u32_at(stretch, 0) as usize)?;
+    rt.write_all(b"\n")
 }
 
-fn pair(point: u64, book: &[u8], lot: Lot, call: Call) {
+fn pair(rt: &impl Print, point: u64, book: &[u8], lot: Lot, call: Call) -> io::Result<()> {
     let cost = book::pair_cost(book, lot, call);
-    name(point);
+    name(rt, point)?;
     match cost {
         Cost::Of(c) => {
-            io::write_all(1, b" COST ");
+            rt.write_all(b" COST ")?;
             if signed::below_zero(c) {
-                io::write_all(1, b"-");
+                rt.write_all(b"-")?;
             }
-            io::print_decimal(1, signed::size(c));
+            rt.print(signed::size(c))?;
         }
         Cost::NotEligible => {
-            io::write_all(1, b" NOT ELIGIBLE");
+            rt.write_all(b" NOT ELIGIBLE")?;
         }
         Cost::Outside => {
-            io::write_all(1, b" OUTSIDE");
+            rt.write_all(b" OUTSIDE")?;
         }
         Cost::Refused(r) => {
-            refused(r);
+            refused(rt, r)?;
         }
     }
-    io::write_all(1, b"\n");
+    rt.write_all(b"\n")
 }
 
 // An amount of a file of 1 lot and 1 call with the largest amounts.
-fn amount(point: u64, k: usize) {
+fn amount(rt: &impl Print, point: u64, k: usize) -> io::Result<()> {
     let file = file_of(&files::AMOUNTS_MARK, 1, 1, 1000000000, 1000000000, 0);
-    name(point);
-    io::write_all(1, b" AMOUNT");
-    number(amounts::inner::amount_at(first(&file, 15), k) as usize);
-    io::write_all(1, b"\n");
+    name(rt, point)?;
+    rt.write_all(b" AMOUNT")?;
+    number(rt, amounts::inner::amount_at(first(&file, 15), k) as usize)?;
+    rt.write_all(b"\n")
 }
 
-fn openings() {
-    case(2, book::read_book(b""));
-    case(2, book::read_book(b"CLO\x01\x00\x01"));
-    case(2, book::read_book(b"CLO\x01\x00\x01\x01"));
-    case(3, book::read_book(b"CLB\x00\x01\x01\x01"));
-    case(3, book::read_book(b"CLB\x01\x01\x01\x01"));
+fn openings(rt: &impl Print) -> io::Result<()> {
+    case(rt, 2, book::read_book(b""))?;
+    case(rt, 2, book::read_book(b"CLO\x01\x00\x01"))?;
+    case(rt, 2, book::read_book(b"CLO\x01\x00\x01\x01"))?;
+    case(rt, 3, book::read_book(b"CLB\x00\x01\x01\x01"))?;
+    case(rt, 3, book::read_book(b"CLB\x01\x01\x01\x01"))
 }
 
-fn rows() {
-    book(F14, 1, 33, 7, 0, 0, 0);
-    book(4, 0, 33, 7, 0, 0, 0);
-    book(4, 33, 1, 7, 0, 0, 0);
-    book(4, 255, 0, 7, 0, 0, 0);
-    book(F14, 1, 2, 11, 4, 0, 0);
-    book(5, 1, 2, 15, 3, 0xffffffff, 0);
-    book(6, 2, 1, 15, 1, 0xffffffff, 0);
-    book(6, 2, 1, 19, 1, 0xffffffff, 2);
-    book(7, 1, 2, 10, 4, 0, 0);
-    book(8, 2, 2, 15, 0, 0x80000000, 0);
-    book(9, 1, 32, 139, 0xffffffff, 0, 0);
-    book(10, 1, 4, 19, 10, 0, 1000001);
+fn rows(rt: &impl Print) -> io::Result<()> {
+    book(rt, F14, 1, 33, 7, 0, 0, 0)?;
+    book(rt, 4, 0, 33, 7, 0, 0, 0)?;
+    book(rt, 4, 33, 1, 7, 0, 0, 0)?;
+    book(rt, 4, 255, 0, 7, 0, 0, 0)?;
+    book(rt, F14, 1, 2, 11, 4, 0, 0)?;
+    book(rt, 5, 1, 2, 15, 3, 0xffffffff, 0)?;
+    book(rt, 6, 2, 1, 15, 1, 0xffffffff, 0)?;
+    book(rt, 6, 2, 1, 19, 1, 0xffffffff, 2)?;
+    book(rt, 7, 1, 2, 10, 4, 0, 0)?;
+    book(rt, 8, 2, 2, 15, 0, 0x80000000, 0)?;
+    book(rt, 9, 1, 32, 139, 0xffffffff, 0, 0)?;
+    book(rt, 10, 1, 4, 19, 10, 0, 1000001)
 }
 
-fn limits() {
-    book(F13, 1, 1, 15, 1, 1000001, 0);
-    book(11, 1, 1, 15, 1, 1000000, 0);
-    book(11, 1, 1, 15, 1, 0xffffffff, 0);
+fn limits(rt: &impl Print) -> io::Result<()> {
+    book(rt, F13, 1, 1, 15, 1, 1000001, 0)?;
+    book(rt, 11, 1, 1, 15, 1, 1000000, 0)?;
+    book(rt, 11, 1, 1, 15, 1, 0xffffffff, 0)?;
     let file = largest();
-    case(12, book::read_book(first(&file, 4231)));
-    case(12, book::read_book(first(&file, 4232)));
-    book(13, 1, 1, 7, 1, 0, 0);
-    book(13, 1, 1, 11, 1, 0, 0);
-    book(13, 1, 1, 14, 1, 0, 0);
+    case(rt, 12, book::read_book(first(&file, 4231)))?;
+    case(rt, 12, book::read_book(first(&file, 4232)))?;
+    book(rt, 13, 1, 1, 7, 1, 0, 0)?;
+    book(rt, 13, 1, 1, 11, 1, 0, 0)?;
+    book(rt, 13, 1, 1, 14, 1, 0, 0)
 }
 
-fn lots_and_pairs() {
-    costs(15, &SINGLE_AND_A_BYTE, Lot(0));
-    costs(16, &TWO_BY_THREE, Lot(1));
-    costs(17, &SINGLE, Lot(256));
-    costs(17, &SINGLE, Lot(18446744073709551615));
-    costs(18, &TWO_BY_THREE, Lot(0));
-    pair(18, &TWO_BY_THREE, Lot(0), Call(2));
-    pair(18, &TWO_BY_THREE, Lot(0), Call(1));
-    pair(17, &TWO_BY_THREE, Lot(256), Call(0));
-    pair(15, &SINGLE_AND_A_BYTE, Lot(0), Call(0));
+fn lots_and_pairs(rt: &impl Print) -> io::Result<()> {
+    costs(rt, 15, &SINGLE_AND_A_BYTE, Lot(0))?;
+    costs(rt, 16, &TWO_BY_THREE, Lot(1))?;
+    costs(rt, 17, &SINGLE, Lot(256))?;
+    costs(rt, 17, &SINGLE, Lot(18446744073709551615))?;
+    costs(rt, 18, &TWO_BY_THREE, Lot(0))?;
+    pair(rt, 18, &TWO_BY_THREE, Lot(0), Call(2))?;
+    pair(rt, 18, &TWO_BY_THREE, Lot(0), Call(1))?;
+    pair(rt, 17, &TWO_BY_THREE, Lot(256), Call(0))?;
+    pair(rt, 15, &SINGLE_AND_A_BYTE, Lot(0), Call(0))
 }
 
-fn amounts_files() {
-    amounts(F13, &SINGLE, 1, 1, 15, 1000000001, 0);
-    amounts(34, &SINGLE, 7, 7, 7, 0, 0);
-    amounts(34, &TWO_BY_THREE, 3, 2, 27, 0, 0);
-    amounts(35, &SINGLE, 1, 1, 14, 0, 0);
-    amounts(35, &SINGLE, 1, 1, 16, 0xffffffff, 0xffffffff);
-    amounts(36, &SINGLE, 1, 1, 15, 1000000000, 1000000000);
-    amounts(36, &SINGLE, 1, 1, 15, 0, 1000000001);
-    amount(36, 1);
-    amount(36, 18446744073709551615);
-    amounts(37, &SINGLE_AND_A_BYTE, 0, 0, 7, 0, 0);
-    amounts(37, b"CLB\x01\x00\x01\x01\x02\x00\x00\x00", 0, 0, 7, 0, 0);
+fn amounts_files(rt: &impl Print) -> io::Result<()> {
+    amounts(rt, F13, &SINGLE, 1, 1, 15, 1000000001, 0)?;
+    amounts(rt, 34, &SINGLE, 7, 7, 7, 0, 0)?;
+    amounts(rt, 34, &TWO_BY_THREE, 3, 2, 27, 0, 0)?;
+    amounts(rt, 35, &SINGLE, 1, 1, 14, 0, 0)?;
+    amounts(rt, 35, &SINGLE, 1, 1, 16, 0xffffffff, 0xffffffff)?;
+    amounts(rt, 36, &SINGLE, 1, 1, 15, 1000000000, 1000000000)?;
+    amounts(rt, 36, &SINGLE, 1, 1, 15, 0, 1000000001)?;
+    amount(rt, 36, 1)?;
+    amount(rt, 36, 18446744073709551615)?;
+    amounts(rt, 37, &SINGLE_AND_A_BYTE, 0, 0, 7, 0, 0)?;
+    amounts(
+        rt,
+        37,
+        b"CLB\x01\x00\x01\x01\x02\x00\x00\x00",
+        0,
+        0,
+        7,
+        0,
+        0,
+    )
 }
 
 // The same bits as a cost in version 1 and in version 2.
-fn both_versions(cost: u32) {
-    of_version(86, 1, cost);
-    of_version(86, 2, cost);
+fn both_versions(rt: &impl Print, cost: u32) -> io::Result<()> {
+    of_version(rt, 86, 1, cost)?;
+    of_version(rt, 86, 2, cost)
 }
 
-fn signed_costs() {
-    both_versions(1000000);
-    both_versions(1000001);
-    both_versions(0x80000000);
-    both_versions(0xfff0bdbf);
-    both_versions(0xfff0bdc0);
-    both_versions(0xffffffff);
+fn signed_costs(rt: &impl Print) -> io::Result<()> {
+    both_versions(rt, 1000000)?;
+    both_versions(rt, 1000001)?;
+    both_versions(rt, 0x80000000)?;
+    both_versions(rt, 0xfff0bdbf)?;
+    both_versions(rt, 0xfff0bdc0)?;
+    both_versions(rt, 0xffffffff)
 }
 
-fn versions() {
-    of_version(87, 0, 0);
-    of_version(87, 2, 0);
-    of_version(87, 3, 0);
-    of_version(87, 258, 0);
+fn versions(rt: &impl Print) -> io::Result<()> {
+    of_version(rt, 87, 0, 0)?;
+    of_version(rt, 87, 2, 0)?;
+    of_version(rt, 87, 3, 0)?;
+    of_version(rt, 87, 258, 0)
 }
 
-fn rebates() {
-    pair(88, &REBATE, Lot(0), Call(0));
-    pair(88, &REBATE, Lot(0), Call(1));
-    pair(88, &REBATE, Lot(0), Call(2));
-    costs(89, &REBATE, Lot(0));
+fn rebates(rt: &impl Print) -> io::Result<()> {
+    pair(rt, 88, &REBATE, Lot(0), Call(0))?;
+    pair(rt, 88, &REBATE, Lot(0), Call(1))?;
+    pair(rt, 88, &REBATE, Lot(0), Call(2))?;
+    costs(rt, 89, &REBATE, Lot(0))
 }
 
-fn main() {
-    openings();
-    rows();
-    limits();
-    lots_and_pairs();
-    amounts_files();
-    signed_costs();
-    versions();
-    rebates();
-    zero_counts::books();
-    zero_counts::words();
-    zero_counts::lots_and_pairs();
-    zero_counts::amounts_files();
-    reserves::lengths();
-    reserves::largest();
-    reserves::above_lots();
-    reserves::versions();
-    reserves::zero_counts();
+fn main(rt: HostRuntime) -> io::Result<()> {
+    openings(&rt)?;
+    rows(&rt)?;
+    limits(&rt)?;
+    lots_and_pairs(&rt)?;
+    amounts_files(&rt)?;
+    signed_costs(&rt)?;
+    versions(&rt)?;
+    rebates(&rt)?;
+    zero_counts::books(&rt)?;
+    zero_counts::words(&rt)?;
+    zero_counts::lots_and_pairs(&rt)?;
+    zero_counts::amounts_files(&rt)?;
+    reserves::lengths(&rt)?;
+    reserves::largest(&rt)?;
+    reserves::above_lots(&rt)?;
+    reserves::versions(&rt)?;
+    reserves::zero_counts(&rt)
 }

@@ -10,6 +10,7 @@ mod ticket_panel;
 mod zero_counts;
 
 use specification::Found;
+use std::io;
 
 // The first `length` bytes of a buffer, or all where it has fewer: the file that stands in it.
 fn file(buffer: &[u8], length: usize) -> &[u8] {
@@ -19,256 +20,297 @@ fn file(buffer: &[u8], length: usize) -> &[u8] {
     buffer
 }
 
-fn check(label: &[u8], book: &[u8], order: &[u8]) {
-    show::checked(label, order::check_order(book, order));
+fn check(rt: &impl Print, label: &[u8], book: &[u8], order: &[u8]) -> io::Result<()> {
+    show::checked(rt, label, order::check_order(book, order))
 }
 
-fn run(label: &[u8], book: &[u8], order: &[u8], amounts: &[u8]) {
+fn run(rt: &impl Print, label: &[u8], book: &[u8], order: &[u8], amounts: &[u8]) -> io::Result<()> {
     let mut flow = [7u32; 5];
     let answer = run::run_order(book, order, amounts, &mut flow);
-    show::placed(label, b"run_order", answer, &flow);
+    show::placed(rt, label, b"run_order", answer, &flow)
 }
 
-fn find_and_run(label: &[u8], book: &[u8], amounts: &[u8]) {
+fn find_and_run(rt: &impl Print, label: &[u8], book: &[u8], amounts: &[u8]) -> io::Result<()> {
     let mut flow = [7u32; 5];
     let answer = placer::find_and_run(book, amounts, &mut flow);
-    show::placed(label, b"find_and_run", answer, &flow);
+    show::placed(rt, label, b"find_and_run", answer, &flow)
 }
 
-fn find_and_run_idle(label: &[u8], book: &[u8], amounts: &[u8]) {
+fn find_and_run_idle(rt: &impl Print, label: &[u8], book: &[u8], amounts: &[u8]) -> io::Result<()> {
     let mut flow = [7u32; 7];
     let answer = placer::find_and_run_idle(book, amounts, &mut flow);
-    show::placed(label, b"find_and_run_idle", answer, &flow);
+    show::placed(rt, label, b"find_and_run_idle", answer, &flow)
 }
 
 // Finds an order, runs the file that was written, and finds and runs in one call.
-fn place(label: &[u8], book: &[u8], amounts: &[u8]) {
+fn place(rt: &impl Print, label: &[u8], book: &[u8], amounts: &[u8]) -> io::Result<()> {
     let mut order = [255u8; 18];
     let answer = finder::find_order(book, &mut order);
-    show::found(label, answer, &order);
+    show::found(rt, label, answer, &order)?;
     if let Found::Length(length) = answer {
-        run(label, book, file(&order, length), amounts);
+        run(rt, label, book, file(&order, length), amounts)?;
     }
-    find_and_run(label, book, amounts);
+    find_and_run(rt, label, book, amounts)
 }
 
-fn f1() {
-    show::counts(b"F1", b"read_book", book::read_book(&given::F1_BOOK));
+fn f1(rt: &impl Print) -> io::Result<()> {
+    show::counts(rt, b"F1", b"read_book", book::read_book(&given::F1_BOOK))?;
     show::counts(
+        rt,
         b"F1",
         b"read_amounts",
         amounts::read_amounts(&given::F1_BOOK, &given::F1_AMOUNTS),
-    );
-    place(b"F1", &given::F1_BOOK, &given::F1_AMOUNTS);
+    )?;
+    place(rt, b"F1", &given::F1_BOOK, &given::F1_AMOUNTS)
 }
 
-fn f2_to_f4() {
-    check(b"F2", &given::F1_BOOK, &given::F2_ORDER);
-    check(b"F3", &given::F1_BOOK, &given::F3_ORDER);
-    check(b"F4", &given::F1_BOOK, &given::F4_ORDER);
+fn f2_to_f4(rt: &impl Print) -> io::Result<()> {
+    check(rt, b"F2", &given::F1_BOOK, &given::F2_ORDER)?;
+    check(rt, b"F3", &given::F1_BOOK, &given::F3_ORDER)?;
+    check(rt, b"F4", &given::F1_BOOK, &given::F4_ORDER)
 }
 
-fn f5_to_f8() {
-    check(b"F5", &given::F5_BOOK, &given::F2_ORDER);
-    check(b"F6", &given::F6_BOOK, &given::F6_ORDER);
-    place(b"F7", &given::F6_BOOK, &given::F7_AMOUNTS);
-    place(b"F8", &given::F6_BOOK, &given::F8_AMOUNTS);
+fn f5_to_f8(rt: &impl Print) -> io::Result<()> {
+    check(rt, b"F5", &given::F5_BOOK, &given::F2_ORDER)?;
+    check(rt, b"F6", &given::F6_BOOK, &given::F6_ORDER)?;
+    place(rt, b"F7", &given::F6_BOOK, &given::F7_AMOUNTS)?;
+    place(rt, b"F8", &given::F6_BOOK, &given::F8_AMOUNTS)
 }
 
 // No order exists. A buffer that is too short comes before that, and amounts that are refused before both.
-fn f9() {
+fn f9(rt: &impl Print) -> io::Result<()> {
     let mut short = [255u8; 18];
     let answer = finder::find_order(&given::F9_BOOK, &mut short);
-    show::found(b"F9, 18 bytes", answer, &short);
+    show::found(rt, b"F9, 18 bytes", answer, &short)?;
     let mut order = [255u8; 19];
     let answer = finder::find_order(&given::F9_BOOK, &mut order);
-    show::found(b"F9", answer, &order);
+    show::found(rt, b"F9", answer, &order)
 }
 
-fn f9_in_one_call() {
+fn f9_in_one_call(rt: &impl Print) -> io::Result<()> {
     let mut flow = [7u32; 9];
     let answer = placer::find_and_run(&given::F9_BOOK, &given::F9_AMOUNTS, &mut flow);
-    show::placed(b"F9", b"find_and_run", answer, &flow);
-    find_and_run(b"F9, 5 entries", &given::F9_BOOK, &given::F9_AMOUNTS);
-    find_and_run(b"F9, no amounts", &given::F9_BOOK, b"");
+    show::placed(rt, b"F9", b"find_and_run", answer, &flow)?;
+    find_and_run(rt, b"F9, 5 entries", &given::F9_BOOK, &given::F9_AMOUNTS)?;
+    find_and_run(rt, b"F9, no amounts", &given::F9_BOOK, b"")
 }
 
-fn f10_to_f12() {
-    place(b"F10", &given::F10_BOOK, &given::F10_AMOUNTS);
-    place(b"F11", &given::F10_BOOK, &given::F11_AMOUNTS);
-    place(b"F12", &given::F12_BOOK, &given::F12_AMOUNTS);
+fn f10_to_f12(rt: &impl Print) -> io::Result<()> {
+    place(rt, b"F10", &given::F10_BOOK, &given::F10_AMOUNTS)?;
+    place(rt, b"F11", &given::F10_BOOK, &given::F11_AMOUNTS)?;
+    place(rt, b"F12", &given::F12_BOOK, &given::F12_AMOUNTS)
 }
 
-fn f13() {
-    show::counts(b"F13", b"read_book", book::read_book(&given::F13_BOOK));
+fn f13(rt: &impl Print) -> io::Result<()> {
+    show::counts(rt, b"F13", b"read_book", book::read_book(&given::F13_BOOK))?;
     show::counts(
+        rt,
         b"F13",
         b"read_amounts",
         amounts::read_amounts(&given::F12_BOOK, &given::F13_AMOUNTS),
-    );
-    place(b"F13", &given::F12_BOOK, &given::F13_AMOUNTS);
+    )?;
+    place(rt, b"F13", &given::F12_BOOK, &given::F13_AMOUNTS)
 }
 
-fn f14() {
-    show::counts(b"F14", b"read_book", book::read_book(&given::F14_CALLS));
-    show::counts(b"F14", b"read_book", book::read_book(&given::F14_BIT));
+fn f14(rt: &impl Print) -> io::Result<()> {
+    show::counts(rt, b"F14", b"read_book", book::read_book(&given::F14_CALLS))?;
+    show::counts(rt, b"F14", b"read_book", book::read_book(&given::F14_BIT))
 }
 
 // The whole order is checked before the amounts are looked at. The file that is run ends at the length replied: what stands after it in
 // the buffer is not part of it.
-fn orders_refused() {
-    run(b"F2", &given::F1_BOOK, &given::F2_ORDER, &given::F1_AMOUNTS);
-    run(b"F2, no amounts", &given::F1_BOOK, &given::F2_ORDER, b"");
+fn orders_refused(rt: &impl Print) -> io::Result<()> {
+    run(
+        rt,
+        b"F2",
+        &given::F1_BOOK,
+        &given::F2_ORDER,
+        &given::F1_AMOUNTS,
+    )?;
+    run(
+        rt,
+        b"F2, no amounts",
+        &given::F1_BOOK,
+        &given::F2_ORDER,
+        b"",
+    )?;
     let mut order = [255u8; 18];
     finder::find_order(&given::F1_BOOK, &mut order);
     run(
+        rt,
         b"F1, all of the buffer",
         &given::F1_BOOK,
         &order,
         &given::F1_AMOUNTS,
-    );
+    )
 }
 
 // A flow needs an entry for each lot with each call, eligible or not. A lot with no eligible pair is left over, and every call is met: Covered.
-fn few_pairs() {
+fn few_pairs(rt: &impl Print) -> io::Result<()> {
     let mut flow = [7u32; 3];
     let answer = placer::find_and_run(&given::F6_BOOK, &given::F7_AMOUNTS, &mut flow);
-    show::placed(b"F7, 3 entries", b"find_and_run", answer, &flow);
+    show::placed(rt, b"F7, 3 entries", b"find_and_run", answer, &flow)?;
     place(
+        rt,
         b"Lot with no eligible pair",
         &given::LONE_BOOK,
         &given::LONE_AMOUNTS,
-    );
+    )
 }
 
 // A call that lacks a unit is Short, also where a lot has one left that is not eligible for it. Stock that no call asks for is Covered.
-fn left_and_lacking() {
+fn left_and_lacking(rt: &impl Print) -> io::Result<()> {
     place(
+        rt,
         b"Lot left and call lacking",
         &given::F6_BOOK,
         &given::STRANDED_AMOUNTS,
-    );
-    place(b"Nothing asked", &given::F6_BOOK, &given::IDLE_AMOUNTS);
+    )?;
+    place(rt, b"Nothing asked", &given::F6_BOOK, &given::IDLE_AMOUNTS)
 }
 
 // The plain run leaves the cheap lot idle; with an idle call the dear one stays. Equal totals and no amounts at all are Full.
-fn stock_to_spare() {
-    find_and_run(b"Spare", &given::SPARE_BOOK, &given::SPARE_AMOUNTS);
-    find_and_run_idle(b"Spare", &given::SPARE_BOOK, &given::SPARE_AMOUNTS);
-    find_and_run_idle(b"F1", &given::F1_BOOK, &given::F1_AMOUNTS);
-    find_and_run_idle(b"No amounts", &given::SPARE_BOOK, &given::NO_AMOUNTS);
+fn stock_to_spare(rt: &impl Print) -> io::Result<()> {
+    find_and_run(rt, b"Spare", &given::SPARE_BOOK, &given::SPARE_AMOUNTS)?;
+    find_and_run_idle(rt, b"Spare", &given::SPARE_BOOK, &given::SPARE_AMOUNTS)?;
+    find_and_run_idle(rt, b"F1", &given::F1_BOOK, &given::F1_AMOUNTS)?;
+    find_and_run_idle(rt, b"No amounts", &given::SPARE_BOOK, &given::NO_AMOUNTS)
 }
 
 // A lot with no eligible call may stay idle, and a call that it alone could meet still lacks. Of six lots the five with a cost stay idle, more units
 // than 32 bits hold.
-fn lots_that_stay() {
-    find_and_run_idle(b"F8", &given::F6_BOOK, &given::F8_AMOUNTS);
-    find_and_run_idle(b"F10", &given::F10_BOOK, &given::F10_AMOUNTS);
-    find_and_run_idle(b"Dear lot", &given::DEAR_BOOK, &given::DEAR_AMOUNTS);
-    find_and_run_idle(b"Six lots", &given::SIX_BOOK, &given::SIX_AMOUNTS);
+fn lots_that_stay(rt: &impl Print) -> io::Result<()> {
+    find_and_run_idle(rt, b"F8", &given::F6_BOOK, &given::F8_AMOUNTS)?;
+    find_and_run_idle(rt, b"F10", &given::F10_BOOK, &given::F10_AMOUNTS)?;
+    find_and_run_idle(rt, b"Dear lot", &given::DEAR_BOOK, &given::DEAR_AMOUNTS)?;
+    find_and_run_idle(rt, b"Six lots", &given::SIX_BOOK, &given::SIX_AMOUNTS)
 }
 
 // The book has an order, and the enlarged one has none. 17 is about the book's own m and comes before 13, 18 before 17, and 16 before 18.
-fn idle_refused() {
+fn idle_refused(rt: &impl Print) -> io::Result<()> {
     let mut flow = [7u32; 6];
     let answer = placer::find_and_run(&given::CORNERS_BOOK, &given::CORNERS_AMOUNTS, &mut flow);
-    show::placed(b"Corners", b"find_and_run", answer, &flow);
-    find_and_run_idle(b"Corners", &given::CORNERS_BOOK, &given::CORNERS_AMOUNTS);
+    show::placed(rt, b"Corners", b"find_and_run", answer, &flow)?;
+    find_and_run_idle(
+        rt,
+        b"Corners",
+        &given::CORNERS_BOOK,
+        &given::CORNERS_AMOUNTS,
+    )?;
     let mut short = [7u32; 5];
     let answer = placer::find_and_run_idle(
         &given::CORNERS_BOOK,
         &given::CORNERS_AMOUNTS,
         &mut short,
     );
-    show::placed(b"Corners, 5 entries", b"find_and_run_idle", answer, &short);
+    show::placed(
+        rt,
+        b"Corners, 5 entries",
+        b"find_and_run_idle",
+        answer,
+        &short,
+    )?;
     let answer = placer::find_and_run_idle(&given::CORNERS_BOOK, &given::CORNERS_LESS, &mut short);
     show::placed(
+        rt,
         b"Corners, calls above lots",
         b"find_and_run_idle",
         answer,
         &short,
-    );
-    find_and_run_idle(b"Call above the limit", &given::F12_BOOK, &given::HIGH_CALL);
+    )?;
+    find_and_run_idle(
+        rt,
+        b"Call above the limit",
+        &given::F12_BOOK,
+        &given::HIGH_CALL,
+    )
 }
 
 // With 31 calls the idle one is the last that fits; with 32 there is none, which is told after 18 and before 17.
-fn many_calls() {
+fn many_calls(rt: &impl Print) -> io::Result<()> {
     let amounts = given::wide_amounts(31, 3);
     let mut flow = [7u32; 32];
     let answer = placer::find_and_run_idle(&given::WIDE_BOOK, file(&amounts, 135), &mut flow);
-    show::placed(b"31 calls", b"find_and_run_idle", answer, &flow);
+    show::placed(rt, b"31 calls", b"find_and_run_idle", answer, &flow)?;
     find_and_run_idle(
+        rt,
         b"32 calls",
         &given::WIDEST_BOOK,
         &given::wide_amounts(32, 3),
-    );
+    )?;
     find_and_run_idle(
+        rt,
         b"32 calls, above the lot",
         &given::WIDEST_BOOK,
         &given::wide_amounts(32, 1),
-    );
+    )
 }
 
 // A least cost may be below zero. With an idle call, whose cost is 0, the lot with the rebate is placed and the dear one stays.
-fn rebates() {
-    place(b"Rebates", &given::REBATES_BOOK, &given::F1_AMOUNTS);
-    place(b"Lowest cost", &given::LOWEST_BOOK, &given::F12_AMOUNTS);
+fn rebates(rt: &impl Print) -> io::Result<()> {
+    place(rt, b"Rebates", &given::REBATES_BOOK, &given::F1_AMOUNTS)?;
+    place(rt, b"Lowest cost", &given::LOWEST_BOOK, &given::F12_AMOUNTS)?;
     find_and_run(
+        rt,
         b"One rebate",
         &given::ONE_REBATE_BOOK,
         &given::ONE_REBATE_AMOUNTS,
-    );
+    )?;
     find_and_run_idle(
+        rt,
         b"One rebate",
         &given::ONE_REBATE_BOOK,
         &given::ONE_REBATE_AMOUNTS,
-    );
+    )
 }
 
 // A book has version 1 or 2; an order has version 1, with a book of version 2 too.
-fn versions() {
+fn versions(rt: &impl Print) -> io::Result<()> {
     show::counts(
+        rt,
         b"Version 3 of a book",
         b"read_book",
         book::read_book(&given::BOOK_3),
-    );
+    )?;
     check(
+        rt,
         b"Version 2 of an order",
         &given::REBATES_BOOK,
         &given::ORDER_2,
-    );
+    )?;
     run(
+        rt,
         b"Version 2 of an order",
         &given::REBATES_BOOK,
         &given::ORDER_2,
         &given::F1_AMOUNTS,
-    );
+    )
 }
 
-fn main() {
-    f1();
-    f2_to_f4();
-    f5_to_f8();
-    f9();
-    f9_in_one_call();
-    f10_to_f12();
-    f13();
-    f14();
-    orders_refused();
-    few_pairs();
-    left_and_lacking();
-    stock_to_spare();
-    lots_that_stay();
-    idle_refused();
-    many_calls();
-    rebates();
-    versions();
-    zero_counts::desks();
-    ticket_panel::within_eight();
-    ticket_panel::eight();
-    ticket_panel::above_eight();
-    reserves::runs();
-    reserves::above_lots();
-    reserves::several_refusals();
-    reserves::versions();
+fn main(rt: HostRuntime) -> io::Result<()> {
+    f1(&rt)?;
+    f2_to_f4(&rt)?;
+    f5_to_f8(&rt)?;
+    f9(&rt)?;
+    f9_in_one_call(&rt)?;
+    f10_to_f12(&rt)?;
+    f13(&rt)?;
+    f14(&rt)?;
+    orders_refused(&rt)?;
+    few_pairs(&rt)?;
+    left_and_lacking(&rt)?;
+    stock_to_spare(&rt)?;
+    lots_that_stay(&rt)?;
+    idle_refused(&rt)?;
+    many_calls(&rt)?;
+    rebates(&rt)?;
+    versions(&rt)?;
+    zero_counts::desks(&rt)?;
+    ticket_panel::within_eight(&rt)?;
+    ticket_panel::eight(&rt)?;
+    ticket_panel::above_eight(&rt)?;
+    reserves::runs(&rt)?;
+    reserves::above_lots(&rt)?;
+    reserves::several_refusals(&rt)?;
+    reserves::versions(&rt)
 }

@@ -1,135 +1,144 @@
 // What an entry point answered, on one line: a label, the entry point, and the reply in document 01's words. A refusal is its number and
 // its values; an order is written as its pairs, and a flow with all the entries that were lent.
 use specification::{Call, Checked, Counts, Found, Lot, Placed, Refusal};
+use std::io;
 
-fn word(text: &[u8]) {
-    io::write_all(1, text);
+fn word(rt: &impl Print, text: &[u8]) -> io::Result<()> {
+    rt.write_all(text)
 }
 
-fn opening(label: &[u8], entry_point: &[u8]) {
-    word(label);
-    word(b" ");
-    word(entry_point);
-    word(b":");
+fn opening(rt: &impl Print, label: &[u8], entry_point: &[u8]) -> io::Result<()> {
+    word(rt, label)?;
+    word(rt, b" ")?;
+    word(rt, entry_point)?;
+    word(rt, b":")
 }
 
-fn number(n: u64) {
-    word(b" ");
-    io::print_decimal(1, n);
+fn number(rt: &impl Print, n: u64) -> io::Result<()> {
+    word(rt, b" ")?;
+    rt.print(n)
 }
 
-fn pair(lot: Lot, call: Call) {
-    number(lot.0 as u64);
-    number(call.0 as u64);
+fn pair(rt: &impl Print, lot: Lot, call: Call) -> io::Result<()> {
+    number(rt, lot.0 as u64)?;
+    number(rt, call.0 as u64)
 }
 
-fn quadruple(i: Lot, j: Call, k: Lot, l: Call) {
-    pair(i, j);
-    pair(k, l);
+fn quadruple(rt: &impl Print, i: Lot, j: Call, k: Lot, l: Call) -> io::Result<()> {
+    pair(rt, i, j)?;
+    pair(rt, k, l)
 }
 
-fn refusal(r: Refusal) {
-    word(b" refused");
-    number(files::number(r) as u64);
+fn refusal(rt: &impl Print, r: Refusal) -> io::Result<()> {
+    word(rt, b" refused")?;
+    number(rt, files::number(r) as u64)?;
     match r {
-        Refusal::BitOutside(lot) => number(lot.0 as u64),
-        Refusal::CostTooHigh(lot, call) => pair(lot, call),
-        Refusal::PairNotEligible(place) => number(place as u64),
-        Refusal::PairMetBefore(place) => number(place as u64),
-        Refusal::CrossNotEligible(i, j, k, l) => quadruple(i, j, k, l),
-        Refusal::CrossSumTooHigh(i, j, k, l) => quadruple(i, j, k, l),
-        _ => {}
+        Refusal::BitOutside(lot) => number(rt, lot.0 as u64),
+        Refusal::CostTooHigh(lot, call) => pair(rt, lot, call),
+        Refusal::PairNotEligible(place) => number(rt, place as u64),
+        Refusal::PairMetBefore(place) => number(rt, place as u64),
+        Refusal::CrossNotEligible(i, j, k, l) => quadruple(rt, i, j, k, l),
+        Refusal::CrossSumTooHigh(i, j, k, l) => quadruple(rt, i, j, k, l),
+        _ => Ok(()),
     }
 }
 
-pub fn counts(label: &[u8], entry_point: &[u8], answer: Counts) {
-    opening(label, entry_point);
+pub fn counts(rt: &impl Print, label: &[u8], entry_point: &[u8], answer: Counts) -> io::Result<()> {
+    opening(rt, label, entry_point)?;
     match answer {
         Counts::Are(n, m) => {
-            number(n as u64);
-            number(m as u64);
+            number(rt, n as u64)?;
+            number(rt, m as u64)?;
         }
-        Counts::Refused(r) => refusal(r),
+        Counts::Refused(r) => refusal(rt, r)?,
     }
-    word(b"\n");
+    word(rt, b"\n")
 }
 
-pub fn checked(label: &[u8], answer: Checked) {
-    opening(label, b"check_order");
+pub fn checked(rt: &impl Print, label: &[u8], answer: Checked) -> io::Result<()> {
+    opening(rt, label, b"check_order")?;
     match answer {
         Checked::Passes(count) => {
-            word(b" passes");
-            number(count as u64);
+            word(rt, b" passes")?;
+            number(rt, count as u64)?;
         }
-        Checked::Refused(r) => refusal(r),
+        Checked::Refused(r) => refusal(rt, r)?,
     }
-    word(b"\n");
+    word(rt, b"\n")
 }
 
 // A pair of an order file, as lot and call with nothing between them.
-fn listed(order: &[u8], place: u16) {
+fn listed(rt: &impl Print, order: &[u8], place: u16) -> io::Result<()> {
     let at = 7 + 2 * (place as usize);
-    word(b" ");
-    io::print_decimal(1, files::u8_at(order, at) as u64);
-    io::print_decimal(1, files::u8_at(order, at + 1) as u64);
+    word(rt, b" ")?;
+    rt.print(files::u8_at(order, at) as u64)?;
+    rt.print(files::u8_at(order, at + 1) as u64)
 }
 
-fn pairs(order: &[u8], count: u16) {
+fn pairs(rt: &impl Print, order: &[u8], count: u16) -> io::Result<()> {
     let mut place: u16 = 0;
     while place < count {
-        listed(order, place);
+        listed(rt, order, place)?;
         place += 1;
     }
+    Ok(())
 }
 
-pub fn found(label: &[u8], answer: Found, order: &[u8]) {
-    opening(label, b"find_order");
+pub fn found(rt: &impl Print, label: &[u8], answer: Found, order: &[u8]) -> io::Result<()> {
+    opening(rt, label, b"find_order")?;
     match answer {
         Found::Length(length) => {
-            number(length as u64);
-            word(b", order");
-            pairs(order, files::u16_at(order, 5));
+            number(rt, length as u64)?;
+            word(rt, b", order")?;
+            pairs(rt, order, files::u16_at(order, 5))?;
         }
-        Found::Refused(r) => refusal(r),
+        Found::Refused(r) => refusal(rt, r)?,
     }
-    word(b"\n");
+    word(rt, b"\n")
 }
 
-fn entry(units: u32) {
-    number(units as u64);
+fn entry(rt: &impl Print, units: u32) -> io::Result<()> {
+    number(rt, units as u64)
 }
 
-fn entries(flow: &[u32]) {
+fn entries(rt: &impl Print, flow: &[u32]) -> io::Result<()> {
     let mut k: usize = 0;
     while k < flow.len() {
-        entry(flow[k]);
+        entry(rt, flow[k])?;
         k += 1;
     }
+    Ok(())
 }
 
-fn signed(v: i64) {
-    word(b" ");
+fn signed(rt: &impl Print, v: i64) -> io::Result<()> {
+    word(rt, b" ")?;
     if signed::below_zero(v) {
-        word(b"-");
+        word(rt, b"-")?;
     }
-    io::print_decimal(1, signed::size(v));
+    rt.print(signed::size(v))
 }
 
-fn verdict(name: &[u8], units: u64, cost: i64) {
-    word(name);
-    number(units);
-    signed(cost);
+fn verdict(rt: &impl Print, name: &[u8], units: u64, cost: i64) -> io::Result<()> {
+    word(rt, name)?;
+    number(rt, units)?;
+    signed(rt, cost)
 }
 
-pub fn placed(label: &[u8], entry_point: &[u8], answer: Placed, flow: &[u32]) {
-    opening(label, entry_point);
+pub fn placed(
+    rt: &impl Print,
+    label: &[u8],
+    entry_point: &[u8],
+    answer: Placed,
+    flow: &[u32],
+) -> io::Result<()> {
+    opening(rt, label, entry_point)?;
     match answer {
-        Placed::Full(units, cost) => verdict(b" Full", units, cost),
-        Placed::Covered(units, cost) => verdict(b" Covered", units, cost),
-        Placed::Short(units, cost) => verdict(b" Short", units, cost),
-        Placed::Refused(r) => refusal(r),
+        Placed::Full(units, cost) => verdict(rt, b" Full", units, cost)?,
+        Placed::Covered(units, cost) => verdict(rt, b" Covered", units, cost)?,
+        Placed::Short(units, cost) => verdict(rt, b" Short", units, cost)?,
+        Placed::Refused(r) => refusal(rt, r)?,
     }
-    word(b", flow");
-    entries(flow);
-    word(b"\n");
+    word(rt, b", flow")?;
+    entries(rt, flow)?;
+    word(rt, b"\n")
 }

@@ -1,5 +1,6 @@
 // The ticket panel's find-and-run, of at most 8 lots and 8 calls (document 02, request 6). Where `find_and_run` stands beside it both reply and
 // write alike, but for 20, which is the panel's alone.
+use std::io;
 
 // lots 8 to 1, calls 1 to 8
 const EIGHT_AMOUNTS: [u8; 71] =
@@ -62,68 +63,88 @@ fn with_rebate() -> [u8; 295] {
     book
 }
 
-pub fn find_and_run(label: &[u8], book: &[u8], amounts: &[u8], flow: &mut [u32]) {
+pub fn find_and_run(
+    rt: &impl Print,
+    label: &[u8],
+    book: &[u8],
+    amounts: &[u8],
+    flow: &mut [u32],
+) -> io::Result<()> {
     let answer = placer::find_and_run(book, amounts, flow);
-    super::show::placed(label, b"find_and_run", answer, flow);
+    super::show::placed(rt, label, b"find_and_run", answer, flow)
 }
 
-pub fn find_and_run_panel(label: &[u8], book: &[u8], amounts: &[u8], flow: &mut [u32]) {
+pub fn find_and_run_panel(
+    rt: &impl Print,
+    label: &[u8],
+    book: &[u8],
+    amounts: &[u8],
+    flow: &mut [u32],
+) -> io::Result<()> {
     let answer = placer::find_and_run_panel(book, amounts, flow);
-    super::show::placed(label, b"find_and_run_panel", answer, flow);
+    super::show::placed(rt, label, b"find_and_run_panel", answer, flow)
 }
 
 // Both, with flows of five entries.
-pub fn in_five(label: &[u8], book: &[u8], amounts: &[u8]) {
-    find_and_run(label, book, amounts, &mut [7u32; 5]);
-    find_and_run_panel(label, book, amounts, &mut [7u32; 5]);
+pub fn in_five(rt: &impl Print, label: &[u8], book: &[u8], amounts: &[u8]) -> io::Result<()> {
+    find_and_run(rt, label, book, amounts, &mut [7u32; 5])?;
+    find_and_run_panel(rt, label, book, amounts, &mut [7u32; 5])
 }
 
 // Both, with flows of 65, one more than 8 by 8 needs.
-fn in_65(label: &[u8], book: &[u8]) {
-    find_and_run(label, book, &EIGHT_AMOUNTS, &mut [7u32; 65]);
-    find_and_run_panel(label, book, &EIGHT_AMOUNTS, &mut [7u32; 65]);
+fn in_65(rt: &impl Print, label: &[u8], book: &[u8]) -> io::Result<()> {
+    find_and_run(rt, label, book, &EIGHT_AMOUNTS, &mut [7u32; 65])?;
+    find_and_run_panel(rt, label, book, &EIGHT_AMOUNTS, &mut [7u32; 65])
 }
 
 // F1, and F9, which has no order. A desk with 8 lots and no calls, and one with 8 calls and no lots, in version 2.
-pub fn within_eight() {
+pub fn within_eight(rt: &impl Print) -> io::Result<()> {
     find_and_run_panel(
+        rt,
         b"F1",
         &super::given::F1_BOOK,
         &super::given::F1_AMOUNTS,
         &mut [7u32; 5],
-    );
+    )?;
     find_and_run_panel(
+        rt,
         b"F9",
         &super::given::F9_BOOK,
         &super::given::F9_AMOUNTS,
         &mut [7u32; 9],
-    );
-    in_five(b"8 lots alone", &LOTS_ALONE, &LOTS_ALONE_AMOUNTS);
-    in_five(b"8 calls alone", b"CLB\x02\0\0\x08", &CALLS_ALONE_AMOUNTS);
+    )?;
+    in_five(rt, b"8 lots alone", &LOTS_ALONE, &LOTS_ALONE_AMOUNTS)?;
+    in_five(
+        rt,
+        b"8 calls alone",
+        b"CLB\x02\0\0\x08",
+        &CALLS_ALONE_AMOUNTS,
+    )
 }
 
 // The order found begins at (0, 0), with the rebate at (0, 7), and without the last pair, (7, 7), at (6, 7). A flow of 63 entries is too short.
-pub fn eight() {
+pub fn eight(rt: &impl Print) -> io::Result<()> {
     let mut book = eight_by_eight();
-    in_65(b"8 by 8", &book);
+    in_65(rt, b"8 by 8", &book)?;
     find_and_run_panel(
+        rt,
         b"8 by 8, 63 entries",
         &book,
         &EIGHT_AMOUNTS,
         &mut [7u32; 63],
-    );
-    in_65(b"8 by 8 with a rebate", &with_rebate());
+    )?;
+    in_65(rt, b"8 by 8 with a rebate", &with_rebate())?;
     book[7 + 36 * 7] = 127;
-    in_65(b"8 by 8 less a pair", super::file(&book, 291));
+    in_65(rt, b"8 by 8 less a pair", super::file(&book, 291))
 }
 
 // 20 comes after 3 and 4 and before 6. A whole book of 9 lots is 20 for the panel, and `find_and_run` runs it.
-pub fn above_eight() {
-    in_five(b"9 by 1, rows missing", b"CLB\x01\0\x09\x01", b"");
-    in_five(b"1 by 9, rows missing", b"CLB\x01\0\x01\x09", b"");
-    in_five(b"33 by 9", b"CLB\x01\0\x21\x09", b"");
-    in_five(b"9 by 33", b"CLB\x01\0\x09\x21", b"");
-    in_five(b"9 by 1 in version 3", b"CLB\x03\0\x09\x01", b"");
-    find_and_run(b"9 by 1", &NINE_BOOK, &NINE_AMOUNTS, &mut [7u32; 9]);
-    find_and_run_panel(b"9 by 1", &NINE_BOOK, &NINE_AMOUNTS, &mut [7u32; 9]);
+pub fn above_eight(rt: &impl Print) -> io::Result<()> {
+    in_five(rt, b"9 by 1, rows missing", b"CLB\x01\0\x09\x01", b"")?;
+    in_five(rt, b"1 by 9, rows missing", b"CLB\x01\0\x01\x09", b"")?;
+    in_five(rt, b"33 by 9", b"CLB\x01\0\x21\x09", b"")?;
+    in_five(rt, b"9 by 33", b"CLB\x01\0\x09\x21", b"")?;
+    in_five(rt, b"9 by 1 in version 3", b"CLB\x03\0\x09\x01", b"")?;
+    find_and_run(rt, b"9 by 1", &NINE_BOOK, &NINE_AMOUNTS, &mut [7u32; 9])?;
+    find_and_run_panel(rt, b"9 by 1", &NINE_BOOK, &NINE_AMOUNTS, &mut [7u32; 9])
 }

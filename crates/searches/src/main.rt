@@ -6,28 +6,30 @@
 ghost use Rattle.std.specs.Prelude.{◌≡◌, ◌+◌, ◌<◌, ◌≤◌, length};
 
 use specification::Found;
+use std::io;
 
 // A number after a space.
-fn show_number(x: u64) {
-    io::write_all(1, b" ");
-    io::print_decimal(1, x);
+fn show_number(rt: &impl Print, x: u64) -> io::Result<()> {
+    rt.write_all(b" ")?;
+    rt.print(x)
 }
 
 // The pair whose two bytes stand from a byte on.
-fn show_pair(order: &[u8], at: usize)
+fn show_pair(rt: &impl Print, order: &[u8], at: usize) -> io::Result<()>
     requires { at < 100 }
 {
-    show_number(files::u8_at(order, at) as u64);
-    io::write_all(1, b",");
-    io::print_decimal(1, files::u8_at(order, at + 1) as u64);
+    show_number(rt, files::u8_at(order, at) as u64)?;
+    rt.write_all(b",")?;
+    rt.print(files::u8_at(order, at + 1) as u64)
 }
 
-fn show_pairs(order: &[u8]) {
+fn show_pairs(rt: &impl Print, order: &[u8]) -> io::Result<()> {
     for k in 0..7 {
         if k < files::u16_at(order, 5) as usize {
-            show_pair(order, 7 + 2 * k);
+            show_pair(rt, order, 7 + 2 * k)?;
         }
     }
+    Ok(())
 }
 
 // 1 for a byte of the first contents, which are all 170.
@@ -49,45 +51,45 @@ fn kept_from(order: &[u8], from: usize) -> u64 {
 }
 
 // The mark, the version and the count of pairs.
-fn show_opening(order: &[u8]) {
-    show_number(files::u8_at(order, 0) as u64);
-    show_number(files::u8_at(order, 1) as u64);
-    show_number(files::u8_at(order, 2) as u64);
-    show_number(files::u16_at(order, 3) as u64);
-    show_number(files::u16_at(order, 5) as u64);
+fn show_opening(rt: &impl Print, order: &[u8]) -> io::Result<()> {
+    show_number(rt, files::u8_at(order, 0) as u64)?;
+    show_number(rt, files::u8_at(order, 1) as u64)?;
+    show_number(rt, files::u8_at(order, 2) as u64)?;
+    show_number(rt, files::u16_at(order, 3) as u64)?;
+    show_number(rt, files::u16_at(order, 5) as u64)
 }
 
-fn show_kept(order: &[u8], from: usize) {
-    io::write_all(1, b" kept");
-    show_number(kept_from(order, from));
-    io::write_all(1, b"\n");
+fn show_kept(rt: &impl Print, order: &[u8], from: usize) -> io::Result<()> {
+    rt.write_all(b" kept")?;
+    show_number(rt, kept_from(order, from))?;
+    rt.write_all(b"\n")
 }
 
 // A search with a buffer all of whose bytes are 170.
-fn show(label: &[u8], book: &[u8], order: &mut [u8]) {
-    io::write_all(1, label);
+fn show(rt: &impl Print, label: &[u8], book: &[u8], order: &mut [u8]) -> io::Result<()> {
+    rt.write_all(label)?;
     let found = finder::find_order(book, order);
     match found {
         Found::Length(n) => {
-            show_number(n as u64);
-            show_opening(order);
-            show_pairs(order);
-            show_kept(order, n);
+            show_number(rt, n as u64)?;
+            show_opening(rt, order)?;
+            show_pairs(rt, order)?;
+            show_kept(rt, order, n)
         }
         Found::Refused(r) => {
-            io::write_all(1, b" REFUSED");
-            show_number(files::number(r) as u64);
-            show_kept(order, 0);
+            rt.write_all(b" REFUSED")?;
+            show_number(rt, files::number(r) as u64)?;
+            show_kept(rt, order, 0)
         }
     }
 }
 
 // The same with a buffer of so many bytes, at most 40.
-fn show_in(label: &[u8], book: &[u8], length: usize)
+fn show_in(rt: &impl Print, label: &[u8], book: &[u8], length: usize) -> io::Result<()>
     requires { length ≤ 40 }
 {
     let mut order = [170u8; 40];
-    show(label, book, &mut order[..length]);
+    show(rt, label, book, &mut order[..length])
 }
 
 // A cost of the book below.
@@ -179,84 +181,84 @@ const REBATE_WITH_GAP: [u8; 35] =
 const WIDEST: [u8; 31] =
     *b"CLB\x02\0\x02\x02\x03\0\0\0\x40\x42\x0f\0\xc0\xbd\xf0\xff\x03\0\0\0\xc0\xbd\xf0\xff\x40\x42\x0f\0";
 
-fn show_examples() {
-    show_in(b"F1", &F1, 40);
-    show_in(b"F7", &F7, 40);
-    show_in(b"F9", &F9, 19);
-    show_in(b"F10", &F10, 7);
+fn show_examples(rt: &impl Print) -> io::Result<()> {
+    show_in(rt, b"F1", &F1, 40)?;
+    show_in(rt, b"F7", &F7, 40)?;
+    show_in(rt, b"F9", &F9, 19)?;
+    show_in(rt, b"F10", &F10, 7)
 }
 
 // Too short comes before no order, and nothing is written where there is no order.
-fn show_no_order() {
-    show_in(b"P48", &F9, 18);
-    show_in(b"P48", &F9, 19);
-    show_in(b"P49", &F9, 40);
+fn show_no_order(rt: &impl Print) -> io::Result<()> {
+    show_in(rt, b"P48", &F9, 18)?;
+    show_in(rt, b"P48", &F9, 19)?;
+    show_in(rt, b"P49", &F9, 40)
 }
 
-fn show_free_pairs() {
-    show_in(b"P50", &FOURTH_TAKEN, 40);
-    show_in(b"P51", &ONE_PAIR, 40);
-    show_in(b"P52", &FREED, 40);
+fn show_free_pairs(rt: &impl Print) -> io::Result<()> {
+    show_in(rt, b"P50", &FOURTH_TAKEN, 40)?;
+    show_in(rt, b"P51", &ONE_PAIR, 40)?;
+    show_in(rt, b"P52", &FREED, 40)
 }
 
 // The reply is the length; a buffer of that length is long enough, one byte less is not.
-fn show_lengths() {
-    show_in(b"P53", &F1, 15);
-    show_in(b"P53", &F1, 14);
-    show_in(b"P54", &NO_PAIRS, 40);
+fn show_lengths(rt: &impl Print) -> io::Result<()> {
+    show_in(rt, b"P53", &F1, 15)?;
+    show_in(rt, b"P53", &F1, 14)?;
+    show_in(rt, b"P54", &NO_PAIRS, 40)
 }
 
 // No lots, no calls, or neither (request 5): the file has 7 bytes, and a buffer of 6 is too short.
-fn show_zero_counts() {
-    show_in(b"P92", b"CLB\x01\0\0\0", 7);
-    show_in(b"P92", b"CLB\x01\0\0\0", 6);
-    show_in(b"P92", b"CLB\x02\0\0\x20", 40);
-    show_in(b"P92", b"CLB\x01\0\x02\0\0\0\0\0\0\0\0\0", 7);
-    show_in(b"P92", b"CLB\x01\0\x02\0\0\0\0\0\0\0\0\0", 6);
+fn show_zero_counts(rt: &impl Print) -> io::Result<()> {
+    show_in(rt, b"P92", b"CLB\x01\0\0\0", 7)?;
+    show_in(rt, b"P92", b"CLB\x01\0\0\0", 6)?;
+    show_in(rt, b"P92", b"CLB\x02\0\0\x20", 40)?;
+    show_in(rt, b"P92", b"CLB\x01\0\x02\0\0\0\0\0\0\0\0\0", 7)?;
+    show_in(rt, b"P92", b"CLB\x01\0\x02\0\0\0\0\0\0\0\0\0", 6)
 }
 
 // Each search starts anew.
-fn show_anew() {
-    show_in(b"P56", &F9, 40);
-    show_in(b"P56", &F1, 40);
-    show_in(b"P56", &F7, 40);
+fn show_anew(rt: &impl Print) -> io::Result<()> {
+    show_in(rt, b"P56", &F9, 40)?;
+    show_in(rt, b"P56", &F1, 40)?;
+    show_in(rt, b"P56", &F7, 40)
 }
 
 // Sums with their signs: with all pairs eligible, with a gap, and the widest apart.
-fn show_signed() {
-    show_in(b"P141", &REBATES, 40);
-    show_in(b"P141", &REBATE_WITH_GAP, 40);
-    show_in(b"P141", &WIDEST, 40);
+fn show_signed(rt: &impl Print) -> io::Result<()> {
+    show_in(rt, b"P141", &REBATES, 40)?;
+    show_in(rt, b"P141", &REBATE_WITH_GAP, 40)?;
+    show_in(rt, b"P141", &WIDEST, 40)
 }
 
 // A search that is long for a plain scan, by corners.
-fn show_long() {
+fn show_long(rt: &impl Print) -> io::Result<()> {
     let mut order = [170u8; 2060];
-    show(b"P57", &long_search(0), &mut order);
+    show(rt, b"P57", &long_search(0), &mut order)
 }
 
-fn show_long_with_gap() {
+fn show_long_with_gap(rt: &impl Print) -> io::Result<()> {
     let mut order = [170u8; 2060];
     let book = long_search_with_gap();
-    show(b"P57", &book[..4227], &mut order);
+    show(rt, b"P57", &book[..4227], &mut order)
 }
 
 // Where more pairs are missing than ranks are tried with, so that lots are asked: the first two lots have none.
-fn show_long_by_lots() {
+fn show_long_by_lots(rt: &impl Print) -> io::Result<()> {
     let mut order = [170u8; 2060];
     let book = long_search(2);
-    show(b"P57", &book[..3975], &mut order);
+    show(rt, b"P57", &book[..3975], &mut order)
 }
 
-fn main() {
-    show_examples();
-    show_no_order();
-    show_free_pairs();
-    show_lengths();
-    show_anew();
-    show_signed();
-    show_zero_counts();
-    show_long();
-    show_long_with_gap();
-    show_long_by_lots();
+fn main(rt: HostRuntime) -> io::Result<()> {
+    show_examples(&rt)?;
+    show_no_order(&rt)?;
+    show_free_pairs(&rt)?;
+    show_lengths(&rt)?;
+    show_anew(&rt)?;
+    show_signed(&rt)?;
+    show_zero_counts(&rt)?;
+    show_long(&rt)?;
+    show_long_with_gap(&rt)?;
+    show_long_by_lots(&rt)
 }
