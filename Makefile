@@ -1,4 +1,4 @@
-# The C library: build/libplacer.a and build/libplacer.so, for x86-64 Linux only. The archive is compiled from proved code: `rt staticlib`
+# The C library: build/libplacer.a and build/libplacer.so, for x86-64 Linux only. The archive is compiled from proved code: `rt lib`
 # proves what has changed and then writes it. `make install` takes PREFIX, LIBDIR and DESTDIR; `make dist` writes a release that needs no
 # Rattle kit, `make wheel` the Python package with the library inside, both to dist/; `make test` runs the tests from outside.
 PREFIX ?= /usr/local
@@ -9,7 +9,9 @@ MAJOR := $(firstword $(subst ., ,$(VERSION)))
 RELEASE := placer-$(VERSION)-linux-x86_64
 UNPACKED := build/release/$(RELEASE)
 PAGES := FORMATS.md refusals.tsv SCOPE.md WHEN-TO-USE.md BENCHMARKS.md benchmarks.svg
-SOURCES := $(shell find crates -name '*.rt' -o -name '*.antt') crates.txt
+SOURCES := $(shell find crates -name out -prune -o '(' -name '*.rt' -o -name '*.antt' ')' -print) crates.txt
+# code for every x86-64 processor
+CPU := --cpu x86-64
 
 ifneq ($(words [$(DESTDIR)$(PREFIX)$(LIBDIR)]) $(words $(PREFIX) $(LIBDIR)) $(filter-out /%,$(PREFIX) $(LIBDIR)),1 2 )
 $(error PREFIX and LIBDIR are absolute paths, and they and DESTDIR have no spaces)
@@ -18,20 +20,20 @@ endif
 all: build/libplacer.a build/libplacer.so
 
 build/libplacer.a: $(SOURCES)
-	rt staticlib placer_c
+	cd crates/placer_c && rt lib $(CPU)
 	mkdir -p build
 	rt version > build/PROVED-BY
-	cp target/staticlib/libplacer_c.a $@
+	cp crates/placer_c/out/libplacer_c.a $@
 
 build/libplacer.so: build/libplacer.a
 	$(CC) -shared -Wl,-z,now -Wl,-soname,libplacer.so.$(MAJOR) -Wl,--whole-archive $< -Wl,--no-whole-archive -o $@
 	ln -sf libplacer.so build/libplacer.so.$(MAJOR)
 
-# the printing program, of which only a proved one is linked
+# the printing program, of which only a proved one is linked; `rt run` runs it too, where it finds no files
 build/place: $(SOURCES)
-	rt check place
+	cd crates/place && rt run $(CPU) >/dev/null
 	mkdir -p build
-	cp target/bin/place $@
+	cp crates/place/out/place $@
 
 # the way from one installed folder to another
 way = $(shell realpath -m -s --relative-to=$(1) $(2))
