@@ -1,14 +1,14 @@
 // Amounts as numbers, and the reading of the file once its book's n and m are known. In version 2 n reserves follow the call amounts.
-ghost use Rattle.std.specs.Prelude.{◌≡◌, true, cond, ℕ, ◌+◌, ◌*◌, ◌<◌, ◌≤◌, leb, length, get_or};
+ghost use Rattle.std.specs.Prelude.{◌≡◌, true, ℕ, ◌+◌, ◌<◌, ◌≤◌, leb, length, get_or};
 ghost use Rattle.transport.specs.Finder.{every};
-ghost use Rattle.specification.specs.Reply.{stated_counts};
+ghost use Rattle.specification.specs.Reply.{told};
 ghost use Rattle.specification.specs.Bytes.{byte_at};
-ghost use Rattle.specification.specs.Amounts.{amount_at, carries_reserves, reserve_at, lot_amount, read_amounts_of};
+ghost use Rattle.specification.specs.Amounts.{amount_at, amounts_length, carries_reserves, reserve_at, lot_amount, read_amounts_of};
 
-use files::Step;
 use specification::{AMOUNT_LIMIT, Counts, Refusal};
 
 // Number k of the file, counted from 0: the lots' amounts come first, then the calls', then the reserves. Bytes past the end count as 0.
+#[tactic(auto, using(specification::proofs::Numbers::u32_past))]
 pub fn amount_at(amounts: &[u8], k: usize) -> u32
     ensures { result ≡ amount_at amounts.now k }
 {
@@ -32,101 +32,92 @@ fn has_reserves(amounts: &[u8]) -> bool
 fn first_reserve(amounts: &[u8]) -> usize
     ensures { (result ≡ byte_at amounts.now 5 + byte_at amounts.now 6) × (result < 512) }
 {
-    files::u8_at(amounts, 5) as usize + files::u8_at(amounts, 6) as usize
+    let own = files::counts_at(amounts);
+    own.lots + own.calls
 }
 
-// The bytes of a file with these counts, by whether it carries reserves.
-fn length_of(lots: usize, calls: usize, reserved: bool) -> usize
-    requires { (lots ≤ 32) × (calls ≤ 32) }
-    ensures { result ≡ 7 + 4 * (lots + calls + cond reserved lots 0) }
+// The bytes that a file with these counts has, by whether it carries reserves.
+fn length_of(amounts: &[u8], counts: Counts) -> usize
+    requires { (counts.lots ≤ 32) × (counts.calls ≤ 32) }
+    ensures { result ≡ amounts_length counts amounts.now }
 {
-    if reserved {
-        return 7 + 4 * (lots + calls + lots);
-    }
-    7 + 4 * (lots + calls)
+    let reserves = if has_reserves(amounts) {
+        counts.lots
+    } else {
+        0
+    };
+    7 + 4 * (counts.lots + counts.calls + reserves)
 }
 
-// Whether no reserve exceeds what its lot holds, in a file that carries reserves.
+// Whether no reserve exceeds what its lot holds.
 fn within_lots(amounts: &[u8], lots: usize) -> bool
-    requires { (lots ≤ 32) × (carries_reserves amounts.now ≡ true) }
+    requires { lots ≤ 32 }
     ensures { result ≡ every lots (λ i. leb (reserve_at amounts.now i) (amount_at amounts.now i)) }
 {
-    let first = first_reserve(amounts);
-    let mut i: usize = 0;
-    while i < lots {
-        if amount_at(amounts, i) < amount_at(amounts, first + i) {
-            return false;
-        }
-        i += 1;
+    if !has_reserves(amounts) {
+        return true;
     }
-    true
+    let first = first_reserve(amounts);
+    (0..lots).all(|i| amount_at(amounts, first + i) <= amount_at(amounts, i))
 }
 
 // n and m again, or the refusal of the amounts.
-pub fn read_of(lots: usize, calls: usize, amounts: &[u8]) -> Counts
-    requires { (lots ≤ 32) × (calls ≤ 32) }
-    ensures { stated_counts result ≡ read_amounts_of (record { lots = lots; calls = calls }) amounts.now }
+#[tactic(auto, using(crate::proofs::Reading::amounts_within), unfolding(specification::specs::Amounts::read_amounts_of))]
+pub fn read_of(counts: Counts, amounts: &[u8]) -> Result<Counts, Refusal>
+    requires { (counts.lots ≤ 32) × (counts.calls ≤ 32) }
+    ensures { told result ≡ read_amounts_of counts amounts.now }
 {
-    let opening = files::read_opening(amounts, &files::AMOUNTS_MARK, 2);
-    if let Step::Refused(r) = opening {
-        return Counts::Refused(r);
+    files::read_opening(amounts, &files::AMOUNTS_MARK, 2)?;
+    let own = files::counts_at(amounts);
+    if own != counts {
+        return Err(Refusal::CountsDiffer);
     }
-    if files::u8_at(amounts, 5) as usize != lots {
-        return Counts::Refused(Refusal::CountsDiffer);
-    }
-    if files::u8_at(amounts, 6) as usize != calls {
-        return Counts::Refused(Refusal::CountsDiffer);
-    }
-    let reserved = has_reserves(amounts);
-    let size = length_of(lots, calls, reserved);
+    let size = length_of(amounts, counts);
     if amounts.len() < size {
-        return Counts::Refused(Refusal::EndsEarly);
+        return Err(Refusal::EndsEarly);
     }
     if size < amounts.len() {
-        return Counts::Refused(Refusal::BytesAfter);
+        return Err(Refusal::BytesAfter);
     }
-    if !rows::all_within(amounts, 7, lots + calls, 0, AMOUNT_LIMIT) {
-        return Counts::Refused(Refusal::AmountTooHigh);
+    if !rows::all_within(amounts, 7, counts.lots + counts.calls, 0, AMOUNT_LIMIT) {
+        return Err(Refusal::AmountTooHigh);
     }
-    if reserved && !within_lots(amounts, lots) {
-        return Counts::Refused(Refusal::ReserveExceedsLot);
+    if !within_lots(amounts, counts.lots) {
+        return Err(Refusal::ReserveExceedsLot);
     }
-    Counts::Are(lots, calls)
+    Ok(counts)
 }
 
-// Amounts `first` to `first + count - 1` of the file, from entry 0 of the array on.
-pub fn amounts_into(amounts: &[u8], first: usize, count: usize, out: &mut [u64])
-    requires { (first ≤ 32) × (count ≤ 32) × (count ≤ length out.old) }
-    ensures { (k : ℕ) → k < count → get_or out.new k 0 ≡ amount_at amounts.now (first + k) }
+// The amounts of the file from number `first` on, as many as `out` has room for.
+pub fn amounts_into(amounts: &[u8], first: usize, out: &mut [u64])
+    requires { first ≤ 32 }
+    ensures { (k : ℕ) → k < length out.old → get_or out.new k 0 ≡ amount_at amounts.now (first + k) }
 {
-    let mut k: usize = 0;
-    while k < count {
-        out[k] = amount_at(amounts, first + k) as u64;
-        k += 1;
+    for (k, units) in out.iter_mut().enumerate() {
+        *units = u64::from(amount_at(amounts, first + k));
     }
 }
 
 // Takes the reserves off what the first lots hold, in a file that carries reserves.
-fn hold_back(amounts: &[u8], count: usize, out: &mut [u64])
-    requires { (count ≤ 32) × (count ≤ length out.old) × (carries_reserves amounts.now ≡ true)
-        × ((i : ℕ) → i < count → (get_or out.old i 0 ≡ amount_at amounts.now i) × (reserve_at amounts.now i ≤ amount_at amounts.now i)) }
-    ensures { (i : ℕ) → i < count → get_or out.new i 0 ≡ lot_amount amounts.now i }
+fn hold_back(amounts: &[u8], out: &mut [u64])
+    requires carries { carries_reserves amounts.now ≡ true }
+    requires holds { (i : ℕ) → i < length out.old → get_or out.old i 0 ≡ amount_at amounts.now i }
+    requires within { (i : ℕ) → i < length out.old → reserve_at amounts.now i ≤ amount_at amounts.now i }
+    ensures { (i : ℕ) → i < length out.old → get_or out.new i 0 ≡ lot_amount amounts.now i }
 {
     let first = first_reserve(amounts);
-    let mut i: usize = 0;
-    while i < count {
-        out[i] = out[i] - amount_at(amounts, first + i) as u64;
-        i += 1;
+    for (i, units) in out.iter_mut().enumerate() {
+        *units -= u64::from(amount_at(amounts, first + i));
     }
 }
 
-// What the first lots hold less their reserves, from entry 0 of the array on.
-pub fn lots_into(amounts: &[u8], count: usize, out: &mut [u64])
-    requires { (count ≤ 32) × (count ≤ length out.old) × ((i : ℕ) → i < count → reserve_at amounts.now i ≤ amount_at amounts.now i) }
-    ensures { (i : ℕ) → i < count → get_or out.new i 0 ≡ lot_amount amounts.now i }
+// What the first lots hold less their reserves, of as many as `out` has room for.
+pub fn lots_into(amounts: &[u8], out: &mut [u64])
+    requires { (i : ℕ) → i < length out.old → reserve_at amounts.now i ≤ amount_at amounts.now i }
+    ensures { (i : ℕ) → i < length out.old → get_or out.new i 0 ≡ lot_amount amounts.now i }
 {
-    amounts_into(amounts, 0, count, out);
+    amounts_into(amounts, 0, out);
     if has_reserves(amounts) {
-        hold_back(amounts, count, out);
+        hold_back(amounts, out);
     }
 }

@@ -4,18 +4,20 @@
 pub mod inner;
 
 ghost use Rattle.std.specs.Prelude.{◌≡◌};
-ghost use Rattle.specification.specs.Reply.{stated_counts};
+ghost use Rattle.specification.specs.Reply.{told};
 ghost use Rattle.specification.specs.Amounts.{read_amounts};
 
-use specification::Counts;
+use specification::{Counts, Refusal};
 
 // n and m, or the refusal of the book or of the amounts.
-pub fn read_amounts(book: &[u8], amounts: &[u8]) -> Counts
-    ensures { stated_counts result ≡ read_amounts book.now amounts.now }
+#[tactic(auto, using(book::proofs::Readable::read_is), unfolding(specification::specs::Amounts::read_amounts))]
+pub fn read_amounts(book: &[u8], amounts: &[u8]) -> Result<Counts, Refusal>
+    ensures { told result ≡ read_amounts book.now amounts.now }
 {
-    let counts = book::read_book(book);
-    let Counts::Are(lots, calls) = counts else {
-        return counts;
+    // Document 01 names this form for a refused book, in place of `?`.
+    let answer = book::read_book(book);
+    let Ok(counts) = answer else {
+        return answer;
     };
-    inner::read_of(lots, calls, amounts)
+    inner::read_of(counts, amounts)
 }

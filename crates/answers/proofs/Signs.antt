@@ -18,10 +18,6 @@ machine_bits : (z : ℤ) → of_z w64 z ≡ bits_of z
 machine_bits (pos n) = refl
 machine_bits (negsuc n) = refl
 
--- an argument of a call is read back from its bits
-pub bits_are : (z : ℤ) → SFits w64 z → of_z w64 (to_z w64 (of_z w64 z)) ≡ bits_of z
-bits_are z fits = ap (of_z w64) (to_z-of_z fits) ∙ machine_bits z
-
 read_back : (z : ℤ) → SFits w64 z → to_z w64 (bits_of z) ≡ z
 read_back z fits = ap (to_z w64) (sym (machine_bits z)) ∙ to_z-of_z fits
 

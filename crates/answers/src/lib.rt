@@ -1,13 +1,14 @@
 // The answers of document 01's entry points, told in the six numbers that C is handed.
 #![tactic(auto)]
 
-ghost use Rattle.std.specs.Prelude.{◌≡◌, [], ◌∷◌};
-ghost use Rattle.specification.specs.Reply.{stated, stated_counts, stated_checked, stated_placed, stated_found};
-ghost use Rattle.book.specs.Pairs.{stated_cost};
+ghost use Rattle.std.specs.Prelude.{◌≡◌, [], ◌∷◌, ℕ};
+ghost use Rattle.specification.specs.Reply.{stated, told_as, Size, Outcome, outcome_of};
+ghost use Rattle.specification.specs.Book.{PairCost};
+ghost use Rattle.book.specs.Pairs.{pair_cost_of};
 ghost use Rattle.answers.specs.Answers.{four_of, answer, answer_of, counts, cost_of, number, placed};
 
 use book::Cost;
-use specification::{Checked, Counts, Found, Placed, Refusal};
+use specification::{Counts, Placed, Refusal};
 
 // A reply: 0 or the refusal's number; 1 for Full, 2 for Short, 3 for Covered, else 0; and up to four values, the others 0. A cost is a
 // 64-bit two's complement number.
@@ -26,10 +27,10 @@ fn values_of(cause: Refusal) -> [u64; 4]
     match cause {
         Refusal::BitOutside(i) => [i.0 as u64, 0, 0, 0],
         Refusal::CostTooHigh(i, j) => [i.0 as u64, j.0 as u64, 0, 0],
-        Refusal::PairNotEligible(place) => [place as u64, 0, 0, 0],
-        Refusal::PairMetBefore(place) => [place as u64, 0, 0, 0],
-        Refusal::CrossNotEligible(i, j, k, l) => [i.0 as u64, j.0 as u64, k.0 as u64, l.0 as u64],
-        Refusal::CrossSumTooHigh(i, j, k, l) => [i.0 as u64, j.0 as u64, k.0 as u64, l.0 as u64],
+        Refusal::PairNotEligible(place) | Refusal::PairMetBefore(place) => [place as u64, 0, 0, 0],
+        Refusal::CrossNotEligible(i, j, k, l) | Refusal::CrossSumTooHigh(i, j, k, l) => {
+            [i.0 as u64, j.0 as u64, k.0 as u64, l.0 as u64]
+        }
         _ => [0; 4],
     }
 }
@@ -38,12 +39,10 @@ fn values_of(cause: Refusal) -> [u64; 4]
 fn refused(cause: Refusal) -> Answer
     ensures { result ≡ answer (stated cause).number 0 (stated cause).values }
 {
-    let number = files::number(cause);
-    let values = values_of(cause);
     Answer {
-        number: number,
+        number: cause.number(),
         verdict: 0,
-        values: values,
+        values: values_of(cause),
     }
 }
 
@@ -53,61 +52,94 @@ fn accepted(verdict: u32, first: u64, second: u64) -> Answer
 {
     Answer {
         number: 0,
-        verdict: verdict,
+        verdict,
         values: [first, second, 0, 0],
     }
 }
 
+// What an entry point gives where it does not refuse: what it means, and how that is told.
+pub trait Told {
+    ghost use Rattle.answers.specs.declared.Answer.{Answer};
+
+    ghost Meaning: { Type 0 };
+
+    ghost means: { Self → Meaning };
+
+    ghost told: { Meaning → Answer };
+
+    fn told(self) -> Answer
+        ensures { result ≡ told (means self) };
+}
+
 // n and m.
-pub fn counts(reply: Counts) -> Answer
-    ensures { result ≡ answer_of counts (stated_counts reply) }
-{
-    match reply {
-        Counts::Are(n, m) => accepted(0, n as u64, m as u64),
-        Counts::Refused(cause) => refused(cause),
+impl Told for Counts {
+    ghost Meaning = { Size };
+
+    ghost means = { λ size. size };
+
+    ghost told = { counts };
+
+    fn told(self) -> Answer {
+        accepted(0, self.lots as u64, self.calls as u64)
+    }
+}
+
+// A count of pairs, or a file's length.
+impl Told for usize {
+    ghost Meaning = { ℕ };
+
+    ghost means = { λ n. n };
+
+    ghost told = { number };
+
+    fn told(self) -> Answer {
+        accepted(0, self as u64, 0)
     }
 }
 
 // 1 and the cost of an eligible pair; 0 and 0 of one that is not eligible or not in the book.
-pub fn cost(reply: Cost) -> Answer
-    ensures { result ≡ answer_of cost_of (stated_cost reply) }
-{
-    match reply {
-        Cost::Of(cost) => accepted(0, 1, signed::bits(cost)),
-        Cost::NotEligible => accepted(0, 0, 0),
-        Cost::Outside => accepted(0, 0, 0),
-        Cost::Refused(cause) => refused(cause),
-    }
-}
+impl Told for Cost {
+    ghost Meaning = { PairCost };
 
-// A count of pairs.
-pub fn checked(reply: Checked) -> Answer
-    ensures { result ≡ answer_of number (stated_checked reply) }
-{
-    match reply {
-        Checked::Passes(count) => accepted(0, count as u64, 0),
-        Checked::Refused(cause) => refused(cause),
+    ghost means = { pair_cost_of };
+
+    ghost told = { cost_of };
+
+    fn told(self) -> Answer {
+        match self {
+            Cost::Of(cost) => accepted(0, 1, cost.cast_unsigned()),
+            Cost::NotEligible | Cost::Outside => accepted(0, 0, 0),
+        }
     }
 }
 
 // The verdict's number, units and cost.
-pub fn placed(reply: Placed) -> Answer
-    ensures { result ≡ answer_of placed (stated_placed reply) }
-{
-    match reply {
-        Placed::Full(units, cost) => accepted(1, units, signed::bits(cost)),
-        Placed::Covered(units, cost) => accepted(3, units, signed::bits(cost)),
-        Placed::Short(units, cost) => accepted(2, units, signed::bits(cost)),
-        Placed::Refused(cause) => refused(cause),
+impl Told for Placed {
+    ghost Meaning = { Outcome };
+
+    ghost means = { outcome_of };
+
+    ghost told = { placed };
+
+    fn told(self) -> Answer {
+        let (verdict, units, cost) = match self {
+            Placed::Full(units, cost) => (1, units, cost),
+            Placed::Short(units, cost) => (2, units, cost),
+            Placed::Covered(units, cost) => (3, units, cost),
+        };
+        accepted(verdict, units, cost.cast_unsigned())
     }
 }
 
-// A file's length.
-pub fn found(reply: Found) -> Answer
-    ensures { result ≡ answer_of number (stated_found reply) }
-{
-    match reply {
-        Found::Length(length) => accepted(0, length as u64, 0),
-        Found::Refused(cause) => refused(cause),
+// An entry point's answer: what it gives, or its refusal.
+impl<T: Told> From<Result<T, Refusal>> for Answer {
+    ghost from_gives = { λ reply told. told ≡ answer_of T.told (told_as T.means reply) };
+
+    #[tactic(auto, unfolding(crate::specs::Answers::answer_of))]
+    fn from(reply: Result<T, Refusal>) -> Answer {
+        match reply {
+            Ok(given) => given.told(),
+            Err(cause) => refused(cause),
+        }
     }
 }

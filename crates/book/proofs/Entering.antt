@@ -1,5 +1,5 @@
 -- Laws of the table of offsets: its entries as a lot's calls are entered one by one.
-use mathlib.Core.Path.{◌≡◌, sym, ◌∙◌}
+use mathlib.Core.Path.{◌≡◌, refl, sym, ◌∙◌}
 use mathlib.Core.Bool.{true, false, cond, ◌&&◌, and-false}
 use mathlib.Core.List.{List}
 use mathlib.Core.Logic.{⊎_elim}
@@ -9,13 +9,22 @@ use native.Mathlib.Decide.{ℕ_discrete}
 use native.Mathlib.Nat.{mod-lt, add-zero}
 use borrow.Author.Tests.{lt-ltb, le-ltb, eq-eqb, ne_eqb}
 use lib.Dec.{ltb, eqb, lit<}
-use lib.ListN.{length, get_or, set, length-set}
-use lib.Seq.{get_or-set_same, get_or-set_other}
+use lib.ListN.{length, take, get_or, set, length-set}
+use lib.Seq.{get_or-set_same, get_or-set_other, length-take-le, set-append_left}
+use borrow.Rule.Slice.PartMut.{put_mid}
+use Rattle.std.proofs.lemmas.List.{set-append_right}
 use Rattle.files.proofs.Parts.{le_or_lt}
 use Rattle.specification.specs.Book.{bit}
 use Rattle.rows.specs.Words.{ones_below, SetFrom}
 use Rattle.book.specs.Table.{with_row, WithRow}
 use Rattle.rows.proofs.Bits.{ones_below_none, ones_below_set, ones_below_unset}
+
+-- a write in a part of the table is one in the table
+pub put_set : (a k : ℕ) (table part : List ℕ) (j v : ℕ) → a ≤ length table → j < length part
+    → put_mid a k table (set part j v) ≡ set (put_mid a k table part) (a + j) v
+put_set a k table part j v h l =
+    let from : a + j - a ≡ j = omega arith in
+    rw (set-append_right (take a table) _ a (a + j) v (length-take-le a table h) (omega arith), from, set-append_left part _ j v l) refl
 
 ltb_next : (r j : ℕ) → (r ≡ j → ⊥) → ltb r (j + 1) ≡ ltb r j
 ltb_next r j h =

@@ -2,10 +2,12 @@
 use mathlib.Core.Path.{◌≡◌, refl, sym, ap}
 use mathlib.Core.Bool.{true, true≢false}
 use mathlib.Core.List.{List}
-use Prim.Native.Nat.{ℕ}
+use Prim.Native.Nat.{ℕ, ◌+◌, ◌≤◌, ◌<◌}
+use lib.ListN.{length}
 use Rattle.specification.specs.Reply.{Reply, gives, refuses, Size}
-use Rattle.specification.specs.Book.{book_lots, book_calls, read_book}
+use Rattle.specification.specs.Book.{row_size, row_at, row_start, book_lots, book_calls, read_book}
 use Rattle.specification.proofs.Books.{BookRead, book_read}
+use Rattle.specification.proofs.Starts.{row_inside}
 use Rattle.book.specs.Pairs.{not_refused, readable}
 
 pub record Read (book : List ℕ) (lots calls : ℕ) : Type 0 where
@@ -35,3 +37,14 @@ pub read_of : (book : List ℕ) → readable book ≡ true → Read book (book_l
 read_of book e =
     let (n, known) = readable_is book e in
     record { lots_is = refl; calls_is = refl; is_readable = e; known = rw known.sizes at known }
+
+-- of a book that was read
+module _ (book : List ℕ) (counts : Size) (e : read_book book ≡ gives counts) where
+  pub read_is : Read book counts.lots counts.calls
+  read_is = counts_are book (sym e)
+
+  pub row_fits : (i : ℕ) → i < counts.lots → row_start book i + row_size (row_at book i) ≤ length book
+  row_fits i h = row_inside read_is.known i (rw (← read_is.lots_is) h)
+
+  pub lots_few : counts.lots ≤ 32
+  lots_few = rw read_is.lots_is read_is.known.lots_within

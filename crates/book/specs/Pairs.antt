@@ -1,17 +1,20 @@
--- What each case of the answer of `pair_cost` states, and the byte at which a readable book holds the cost of a pair.
-use Rattle.std.specs.Prelude.{List, Bool, true, false, cond, ◌&&◌, ℕ, ◌/◌, ◌%◌}
-use Rattle.specification.specs.Reply.{Reply, gives, refuses, refused}
+-- What the answer of `pair_cost` states, and the byte at which a readable book holds the cost of a pair.
+use Rattle.std.specs.Prelude.{Result, List, Bool, true, false, cond, ◌&&◌, ℕ, ◌/◌, ◌%◌}
+use Rattle.specification.specs.Reply.{Reply, gives, refuses, told_as}
 use Rattle.specification.specs.Book.{read_book, cost_start, problem_of, PairCost, costs, not_eligible, outside}
 use Rattle.specification.specs.Run.{tabulate}
+use Rattle.specification.specs.declared.Refusal.{Refusal}
 use Rattle.book.specs.declared.Cost.{Cost}
-use Rattle.book.specs.declared.Cost.TheVariants.{Of, NotEligible, Outside, Refused}
+use Rattle.book.specs.declared.Cost.TheVariants.{Of, NotEligible, Outside}
 
 -- what each case of the answer states
-abbrev pub stated_cost : Cost → Reply PairCost
-stated_cost (Of cost) = gives (costs cost)
-stated_cost NotEligible = gives not_eligible
-stated_cost Outside = gives outside
-stated_cost (Refused r) = refused r
+abbrev pub pair_cost_of : Cost → PairCost
+pair_cost_of (Of cost) = costs cost
+pair_cost_of NotEligible = not_eligible
+pair_cost_of Outside = outside
+
+abbrev pub stated_cost : Result Cost Refusal → Reply PairCost
+stated_cost = told_as pair_cost_of
 
 -- the reply is no refusal
 abbrev pub not_refused : {A : Type 0} → Reply A → Bool

@@ -3,83 +3,75 @@
 
 pub mod inner;
 
-ghost use Rattle.std.specs.Prelude.{◌≡◌, ◌≤◌};
-ghost use Rattle.specification.specs.Reply.{stated_counts};
-ghost use Rattle.specification.specs.Book.{read_rows, count_outside, read_head, read_book, lot_costs, pair_cost};
-ghost use Rattle.files.specs.Files.{stated_step};
+ghost use Rattle.std.specs.Prelude.{◌≡◌, IfOk};
+ghost use Rattle.specification.specs.Reply.{gives, told, told_as};
+ghost use Rattle.specification.specs.Book.{read_rows, read_head, read_book, lot_costs, pair_cost};
 ghost use Rattle.book.specs.Pairs.{stated_cost};
 
-use files::Step;
 use specification::{Call, Counts, Lot, Refusal};
 
-// What a book says of a lot and a call: the pair's cost, that the pair is not eligible, or that the lot or the call is not in the book.
+// A book that was read: its bytes, and its n and m.
 #[derive(Clone, Copy)]
+pub struct Book<'a> {
+    pub bytes: &'a [u8],
+    pub counts: Counts,
+    pub ghost readable: { read_book bytes.now ≡ gives counts },
+}
+
+// What a book says of a lot and a call, in the three cases that the definition has (`PairCost`): the pair's cost, that the pair is not eligible, or that
+// the lot or the call is not in the book.
+#[derive(Clone, Copy, Debug, PartialEq, Eq)]
 pub enum Cost {
     Of(i64),
     NotEligible,
     Outside,
-    Refused(Refusal),
 }
 
-// The rows of lots 0 to `lots` - 1, in the part of the book that starts at the first one's word; no byte may follow them.
-fn read_rows(rows: &[u8], version: u16, lots: usize, calls: usize) -> Step
-    requires { calls ≤ 32 }
-    ensures { stated_step result ≡ read_rows rows.now version 0 lots calls }
+// The rows of lots 0 to `counts.lots` - 1, in the part of the book that starts at the first one's word; no byte may follow them.
+fn read_rows(rows: &[u8], version: u16, counts: Counts) -> Result<(), Refusal>
+    ensures { told result ≡ read_rows rows.now version 0 counts.lots counts.calls }
 {
-    let all = inner::all_calls(calls);
     let mut at = 0;
-    for lot in 0..lots {
+    for lot in 0..counts.lots {
         let row = &rows[at..];
-        let step = rows::read_row(row, version, Lot(lot), calls, all);
-        if let Step::Refused(r) = step {
-            return Step::Refused(r);
-        }
+        rows::read_row(row, version, Lot(lot), counts.calls)?;
         at += rows::size(row);
     }
     if at < rows.len() {
-        return Step::Refused(Refusal::BytesAfter);
+        return Err(Refusal::BytesAfter);
     }
-    Step::Passes
-}
-
-// Whether a count of lots or calls is above 32.
-fn is_outside(count: usize) -> bool
-    ensures { result ≡ count_outside count }
-{
-    32 < count
+    Ok(())
 }
 
 // n and m by the first seven bytes of a book, or the refusal of these: 1 to 4.
-pub fn read_head(book: &[u8]) -> Counts
-    ensures { stated_counts result ≡ read_head book.now }
+pub fn read_head(book: &[u8]) -> Result<Counts, Refusal>
+    ensures { told result ≡ read_head book.now }
 {
-    let opening = files::read_opening(book, &files::BOOK_MARK, 2);
-    if let Step::Refused(r) = opening {
-        return Counts::Refused(r);
+    files::read_opening(book, &files::BOOK_MARK, 2)?;
+    let counts = files::counts_at(book);
+    if 32 < counts.lots || 32 < counts.calls {
+        return Err(Refusal::CountOutside);
     }
-    let lots = files::u8_at(book, 5) as usize;
-    let calls = files::u8_at(book, 6) as usize;
-    if is_outside(lots) {
-        return Counts::Refused(Refusal::CountOutside);
-    }
-    if is_outside(calls) {
-        return Counts::Refused(Refusal::CountOutside);
-    }
-    Counts::Are(lots, calls)
+    Ok(counts)
 }
 
 // n and m of a readable book, or its refusal.
-pub fn read_book(book: &[u8]) -> Counts
-    ensures { stated_counts result ≡ read_book book.now }
+pub fn read_book(book: &[u8]) -> Result<Counts, Refusal>
+    ensures { told result ≡ read_book book.now }
 {
-    let head = read_head(book);
-    let Counts::Are(lots, calls) = head else {
-        return head;
-    };
-    let rows = read_rows(&book[7..], inner::version_of(book), lots, calls);
-    match rows {
-        Step::Passes => Counts::Are(lots, calls),
-        Step::Refused(r) => Counts::Refused(r),
+    let counts = read_head(book)?;
+    read_rows(&book[7..], inner::version_of(book), counts)?;
+    Ok(counts)
+}
+
+impl<'a> Book<'a> {
+    // Reads a book.
+    pub fn read(bytes: &'a [u8]) -> Result<Book<'a>, Refusal>
+        ensures counts { told_as (λ book. book.counts) result ≡ read_book bytes.now }
+        ensures bytes { IfOk result (λ book. book.bytes.now ≡ bytes.now) }
+    {
+        let counts = read_book(bytes)?;
+        Ok(Book { bytes, counts })
     }
 }
 
@@ -87,41 +79,22 @@ pub fn read_book(book: &[u8]) -> Counts
 pub fn lot_costs(book: &[u8], lot: Lot) -> &[u8]
     ensures { result.now ≡ lot_costs book.now lot.0 }
 {
-    let counts = read_book(book);
-    let Counts::Are(lots, _) = counts else {
-        return &book[..0];
-    };
-    let i = lot.0;
-    if lots <= i {
-        return &book[..0];
-    }
-    let at = inner::row_at(book, lot);
-    let start = at + 4;
-    let end = at + rows::size(&book[at..]);
-    &book[start..end]
+    &book[inner::costs_range(book, lot)]
 }
 
 // The cost of a pair, by lot number and call number.
-pub fn pair_cost(book: &[u8], lot: Lot, call: Call) -> Cost
+pub fn pair_cost(book: &[u8], lot: Lot, call: Call) -> Result<Cost, Refusal>
     ensures { stated_cost result ≡ pair_cost book.now lot.0 call.0 }
 {
-    let counts = read_book(book);
-    let Counts::Are(lots, calls) = counts else {
-        return Cost::Refused(files::refusal_of(counts));
-    };
-    let i = lot.0;
-    if lots <= i {
-        return Cost::Outside;
+    let read = Book::read(book)?;
+    if read.counts.lots <= lot.0 || read.counts.calls <= call.0 {
+        return Ok(Cost::Outside);
     }
-    let j = call.0;
-    if calls <= j {
-        return Cost::Outside;
-    }
-    let at = inner::row_at(book, lot);
+    let at = read.row_at(lot);
     let row = &book[at..];
-    if rows::word::is_set(files::u32_at(row, 0), j) {
-        Cost::Of(signed::held_cost(rows::cost_in(row, call), inner::version_of(book)))
-    } else {
-        Cost::NotEligible
+    if !rows::word::is_set(files::u32_at(row, 0), call.0) {
+        return Ok(Cost::NotEligible);
     }
+    let cost = signed::held_cost(rows::cost_in(row, call), inner::version_of(book));
+    Ok(Cost::Of(cost))
 }

@@ -1,60 +1,36 @@
 // Amounts of version 2, with a reserve for each lot (document 02, request 7).
 use super::zero_counts::{NO_CALLS, NO_LOTS, NOTHING};
+use super::{REBATE, SINGLE, TWO_BY_THREE, amounts};
 use std::io;
-
-// The first `len` bytes of amounts of a version, with the n and m of their book: three numbers, and then 0.
-fn amounts(
-    rt: &impl Print,
-    point: u64,
-    book: &[u8],
-    version: u16,
-    len: usize,
-    a: u32,
-    b: u32,
-    c: u32,
-) -> io::Result<()> {
-    let mut file = super::file_of(
-        &files::AMOUNTS_MARK,
-        files::u8_at(book, 5),
-        files::u8_at(book, 6),
-        a,
-        b,
-        c,
-    );
-    file[3] = (version % 256) as u8;
-    file[4] = (version / 256 % 256) as u8;
-    super::case(
-        rt,
-        point,
-        amounts::read_amounts(book, super::first(&file, len)),
-    )
-}
 
 // 1 by 1: what the lot holds, what the call asks for, and the reserve.
 fn single(rt: &impl Print, lot: u32, call: u32, reserve: u32) -> io::Result<()> {
-    amounts(rt, 100, &super::SINGLE, 2, 19, lot, call, reserve)
+    amounts(rt, "P100", &SINGLE, 2, [1, 1], 19, &[lot, call, reserve])
 }
 
 // 2 by 3, lots 0 4, calls 0 0 0, and these reserves.
-fn two_by_three(rt: &impl Print, lot_0: u8, lot_1: u8) -> io::Result<()> {
-    let mut file =
-        *b"CLA\x02\x00\x02\x03\x00\x00\x00\x00\x04\x00\x00\x00\x00\x00\x00\x00\x00\x00\x00\x00\x00\x00\x00\x00\x00\x00\x00\x00\x00\x00\x00\x00";
-    file[27] = lot_0;
-    file[31] = lot_1;
-    super::case(rt, 100, amounts::read_amounts(&super::TWO_BY_THREE, &file))
+fn two_by_three(rt: &impl Print, lot_0: u32, lot_1: u32) -> io::Result<()> {
+    amounts(
+        rt,
+        "P100",
+        &TWO_BY_THREE,
+        2,
+        [2, 3],
+        35,
+        &[0, 4, 0, 0, 0, lot_0, lot_1],
+    )
 }
 
 // 1 by 1, with numbers that are all too high: that is told after 6 and 8.
 fn of_length(rt: &impl Print, version: u16, len: usize) -> io::Result<()> {
     amounts(
         rt,
-        99,
-        &super::SINGLE,
+        "P99",
+        &SINGLE,
         version,
+        [1, 1],
         len,
-        0xffffffff,
-        0xffffffff,
-        0xffffffff,
+        &[0xffffffff, 0xffffffff, 0xffffffff],
     )
 }
 
@@ -71,16 +47,16 @@ pub fn lengths(rt: &impl Print) -> io::Result<()> {
 }
 
 pub fn largest(rt: &impl Print) -> io::Result<()> {
-    let file = super::largest();
-    let book = super::first(&file, 4231);
-    amounts(rt, 99, book, 2, 263, 0, 0, 0)?;
-    amounts(rt, 99, book, 2, 390, 0, 0, 0)?;
-    amounts(rt, 99, book, 2, 391, 0, 0, 0)?;
-    amounts(rt, 99, book, 2, 392, 0, 0, 0)?;
-    amounts(rt, 158, book, 1, 263, 0, 0, 0)?;
-    amounts(rt, 158, book, 1, 264, 0, 0, 0)?;
-    amounts(rt, 158, book, 1, 391, 0, 0, 0)?;
-    amounts(rt, 158, book, 1, 392, 0, 0, 0)
+    let file = super::file_of(&files::BOOK_MARK, 1, [32, 32], &super::largest());
+    let book = file.get(..4231).unwrap_or(&file);
+    amounts(rt, "P99", book, 2, [32, 32], 263, &[])?;
+    amounts(rt, "P99", book, 2, [32, 32], 390, &[])?;
+    amounts(rt, "P99", book, 2, [32, 32], 391, &[])?;
+    amounts(rt, "P99", book, 2, [32, 32], 392, &[])?;
+    amounts(rt, "P158", book, 1, [32, 32], 263, &[])?;
+    amounts(rt, "P158", book, 1, [32, 32], 264, &[])?;
+    amounts(rt, "P158", book, 1, [32, 32], 391, &[])?;
+    amounts(rt, "P158", book, 1, [32, 32], 392, &[])
 }
 
 pub fn above_lots(rt: &impl Print) -> io::Result<()> {
@@ -98,36 +74,36 @@ pub fn above_lots(rt: &impl Print) -> io::Result<()> {
 }
 
 pub fn versions(rt: &impl Print) -> io::Result<()> {
-    amounts(rt, 102, &super::SINGLE, 0, 19, 0, 0, 0)?;
-    amounts(rt, 102, &super::SINGLE, 3, 19, 0, 0, 0)?;
-    amounts(rt, 102, &super::SINGLE, 258, 19, 0, 0, 0)?;
-    amounts(rt, 102, &super::SINGLE, 512, 19, 0, 0, 0)?;
-    amounts(rt, 102, &super::REBATE, 1, 23, 0, 0, 0)?;
-    amounts(rt, 102, &super::REBATE, 2, 27, 0, 0, 0)?;
-    super::case(
-        rt,
-        102,
-        amounts::read_amounts(&super::SINGLE, b"CLA\x03\x00\x01\x02"),
-    )?;
-    super::case(
-        rt,
-        34,
-        amounts::read_amounts(&super::SINGLE, b"CLA\x02\x00\x01\x02"),
-    )
+    amounts(rt, "P102", &SINGLE, 0, [1, 1], 19, &[])?;
+    amounts(rt, "P102", &SINGLE, 3, [1, 1], 19, &[])?;
+    amounts(rt, "P102", &SINGLE, 258, [1, 1], 19, &[])?;
+    amounts(rt, "P102", &SINGLE, 512, [1, 1], 19, &[])?;
+    amounts(rt, "P102", &REBATE, 1, [1, 3], 23, &[])?;
+    amounts(rt, "P102", &REBATE, 2, [1, 3], 27, &[])?;
+    amounts(rt, "P102", &SINGLE, 3, [1, 2], 7, &[])?;
+    amounts(rt, "P34", &SINGLE, 2, [1, 2], 7, &[])
 }
 
 // Without lots both versions have one length.
 pub fn zero_counts(rt: &impl Print) -> io::Result<()> {
-    amounts(rt, 99, &NOTHING, 2, 7, 0, 0, 0)?;
-    amounts(rt, 99, &NOTHING, 2, 8, 0, 0, 0)?;
-    amounts(rt, 99, &NO_LOTS, 2, 14, 0, 0, 0)?;
-    amounts(rt, 99, &NO_LOTS, 2, 15, 1000000000, 1000000000, 0)?;
-    amounts(rt, 99, &NO_LOTS, 2, 16, 0, 0, 0)?;
-    amounts(rt, 100, &NO_LOTS, 2, 15, 0, 1000000001, 0)?;
-    amounts(rt, 99, &NO_CALLS, 2, 15, 4, 0, 0)?;
-    amounts(rt, 99, &NO_CALLS, 2, 22, 4, 0, 0)?;
-    amounts(rt, 99, &NO_CALLS, 2, 24, 4, 0, 0)?;
-    amounts(rt, 99, &NO_CALLS, 1, 23, 4, 0, 0)?;
-    amounts(rt, 100, &NO_CALLS, 2, 23, 4, 0, 4)?;
-    amounts(rt, 100, &NO_CALLS, 2, 23, 4, 0, 5)
+    amounts(rt, "P99", &NOTHING, 2, [0, 0], 7, &[])?;
+    amounts(rt, "P99", &NOTHING, 2, [0, 0], 8, &[])?;
+    amounts(rt, "P99", &NO_LOTS, 2, [0, 2], 14, &[])?;
+    amounts(
+        rt,
+        "P99",
+        &NO_LOTS,
+        2,
+        [0, 2],
+        15,
+        &[1000000000, 1000000000],
+    )?;
+    amounts(rt, "P99", &NO_LOTS, 2, [0, 2], 16, &[])?;
+    amounts(rt, "P100", &NO_LOTS, 2, [0, 2], 15, &[0, 1000000001])?;
+    amounts(rt, "P99", &NO_CALLS, 2, [2, 0], 15, &[4])?;
+    amounts(rt, "P99", &NO_CALLS, 2, [2, 0], 22, &[4])?;
+    amounts(rt, "P99", &NO_CALLS, 2, [2, 0], 24, &[4])?;
+    amounts(rt, "P99", &NO_CALLS, 1, [2, 0], 23, &[4])?;
+    amounts(rt, "P100", &NO_CALLS, 2, [2, 0], 23, &[4, 0, 4])?;
+    amounts(rt, "P100", &NO_CALLS, 2, [2, 0], 23, &[4, 0, 5])
 }

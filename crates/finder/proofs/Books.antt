@@ -1,8 +1,10 @@
 -- The entry point's laws: document 01's reply and buffer in each of the four cases; and how many pairs are searched.
-use mathlib.Core.Path.{◌≡◌, refl, sym, ◌∙◌, ap}
+use mathlib.Core.Path.{◌≡◌, refl, ◌∙◌, ap}
 use mathlib.Core.Bool.{Bool, true, false}
 use mathlib.Core.List.{List, [], ◌++◌}
-use mathlib.Core.Option.{Option, some, none}
+use Rattle.std.proofs.Common.{Option, Some, None}
+use mathlib.Core.Option.{some, none}
+use mathlib.Core.Option as math
 use Prim.Native.Nat.{ℕ, suc, ◌+◌, ◌*◌, ◌≤◌, ◌<◌}
 use native.Mathlib.Nat.{mul-le-mul}
 use native.Mathlib.Omega.{arith}
@@ -13,26 +15,15 @@ use Rattle.transport.specs.Finder.{size, find}
 use Rattle.transport.proofs.Laws.Sets.{count_le}
 use Rattle.transport.proofs.Orders.Length.{order_length_lem}
 use Rattle.transport.proofs.Finder.Find.{find_is_order}
-use Rattle.specification.specs.Reply.{Reply, Size, gives, refuses, refused, stated_counts}
-use Rattle.specification.specs.declared.Refusal.{Refusal}
-use Rattle.specification.specs.declared.Counts.{Counts}
-use Rattle.specification.specs.declared.Counts.TheVariants.{Refused}
+use Rattle.specification.specs.Reply.{Reply, Size, gives, refuses}
 use Rattle.specification.specs.Book.{read_book, problem_of}
 use Rattle.specification.specs.OrderFile.{order_file}
 use Rattle.specification.specs.Find.{order_length, found_order, find_order, find_buffer}
 use Rattle.specification.specs.Idle.{enlarged}
 use Rattle.specification.proofs.Books.{problem_within, size_within}
-use Rattle.files.specs.Files.{refusal_of}
 use Rattle.book.proofs.Readable.{Read}
 use Rattle.finder.specs.Searched.{searched}
 use Rattle.finder.specs.Writing.{Orders}
-use Rattle.slacks.specs.declared.Search.{Search}
-use Rattle.slacks.specs.declared.Search.TheVariants.{Found, Nothing}
-
--- the refusal that is handed on is the book's
-pub refusal_is : (book : List ℕ) (counts : Counts) (cause told : Refusal) → stated_counts counts ≡ read_book book → counts ≡ Refused cause
-    → told ≡ refusal_of counts → read_book book ≡ refused told
-refusal_is book counts cause told e q f = let same : told ≡ cause = f ∙ ap refusal_of q in rw same (sym e ∙ ap stated_counts q)
 
 -- what is found, case by case: the book is refused, the buffer is too short, there is no order, or there is one
 module _ (book buffer : List ℕ) where
@@ -45,11 +36,11 @@ module _ (book buffer : List ℕ) where
     unfolding found_order
     found_short h = simp (e, lt-ltb _ _ h)
 
-    found_by : (o : Option (List Pair)) → order_length book ≤ length buffer → find (problem_of book) ≡ o
+    found_by : (o : math.Option (List Pair)) → order_length book ≤ length buffer → find (problem_of book) ≡ o
         → found_order book buffer ≡ elim o [ none ↦ refuses 13 [] | some S ↦ gives S ]
     unfolding found_order
     found_by o h f =
-        simp (e, le-ltb _ _ h) (ap (λ (a : Option (List Pair)). elim a [ none ↦ refuses 13 [] | some S ↦ gives S ]) f)
+        simp (e, le-ltb _ _ h) (ap (λ (a : math.Option (List Pair)). elim a [ none ↦ refuses 13 [] | some S ↦ gives S ]) f)
 
   -- and so the reply and the buffer
   pub refused_replies : (k : ℕ) (vs : List ℕ) → found_order book buffer ≡ refuses k vs
@@ -58,13 +49,13 @@ module _ (book buffer : List ℕ) where
   refused_replies k vs e = (simp e, simp e)
 
 -- the reply that a search's answer makes
-abbrev reply_of : List ℕ → Search → Reply ℕ
-reply_of book Nothing = refuses 13 []
-reply_of book (Found count) = gives (order_length book)
+abbrev reply_of : List ℕ → Option ℕ → Reply ℕ
+reply_of book None = refuses 13 []
+reply_of book (Some count) = gives (order_length book)
 
 -- it is the reply for the book
-pub search_replies : (book buffer after : List ℕ) {size : Size} → read_book book ≡ gives size → order_length book ≤ length buffer → (r : Search)
-    (o : Option (List Pair)) → find (problem_of book) ≡ o → Orders o r buffer after
+pub search_replies : (book buffer after : List ℕ) {size : Size} → read_book book ≡ gives size → order_length book ≤ length buffer → (r : Option ℕ)
+    (o : math.Option (List Pair)) → find (problem_of book) ≡ o → Orders o r buffer after
     → (reply_of book r ≡ find_order book buffer) × (after ≡ find_buffer book buffer)
 unfolding find_order find_buffer
 search_replies book buffer after e h r none f (q, kept) =

@@ -1,7 +1,9 @@
 -- Laws of the order file's bytes: the opening and the copy, and the pairs that bytes hold.
 use mathlib.Core.Path.{◌≡◌, refl, sym, ◌∙◌, ap}
 use mathlib.Core.List.{List, [], ◌∷◌, ◌++◌}
-use mathlib.Core.Option.{Option, some, none}
+use Rattle.std.proofs.Common.{Option, Some, None}
+use mathlib.Core.Option.{some, none}
+use mathlib.Core.Option as math
 use Prim.Native.Nat.{ℕ, zero, suc, ◌+◌, ◌*◌, ◌/◌, ◌%◌, ◌≤◌}
 use native.Mathlib.Omega.{arith}
 use borrow.Author.Tests.{le-ltb}
@@ -18,8 +20,6 @@ use Rattle.files.specs.Files.{write_opening}
 use Rattle.specification.specs.OrderFile.{pairs, pair_bytes, order_file}
 use Rattle.slacks.specs.Found.{Finds}
 use Rattle.finder.specs.Writing.{Orders}
-use Rattle.slacks.specs.declared.Search.{Search}
-use Rattle.slacks.specs.declared.Search.TheVariants.{Found, Nothing}
 
 -- the pairs that bytes hold
 pairs_length : (n : ℕ) (s : List ℕ) → length (pairs n s) ≡ n
@@ -54,19 +54,19 @@ file_written count src before mid part few h seven opened copied =
     rw (copied, opened, le-ltb (length before) 7 seven, high, pairs_length, pairs_bytes, ← drop-drop) refl
 
 -- the whole answer, where the search's own is known; an order has as many pairs as are eligible
-pub counts_found : (P : Problem) (o : Option (List Pair)) (r : Search) (count : ℕ) (bytes : List ℕ) → find P ≡ o → r ≡ Found count → Finds o r bytes
+pub counts_found : (P : Problem) (o : math.Option (List Pair)) (r : Option ℕ) (count : ℕ) (bytes : List ℕ) → find P ≡ o → r ≡ Some count → Finds o r bytes
     → count ≡ size P
 counts_found P none r count bytes q e f = let z : ◌≡◌ {A = ℕ} 0 1 = cc in absurd (omega arith)
 counts_found P (some S) r count bytes q e f = let c : count ≡ length S = cc in c ∙ order_length_lem (find_is_order P S q)
 
-pub orders_found : (o : Option (List Pair)) (r : Search) (count : ℕ) (bytes before after : List ℕ) → r ≡ Found count → Finds o r bytes
-    → after ≡ order_file (pairs count bytes) ++ drop (7 + 2 * count) before → Orders o (Found count) before after
+pub orders_found : (o : math.Option (List Pair)) (r : Option ℕ) (count : ℕ) (bytes before after : List ℕ) → r ≡ Some count → Finds o r bytes
+    → after ≡ order_file (pairs count bytes) ++ drop (7 + 2 * count) before → Orders o (Some count) before after
 orders_found none r count bytes before after q f e = let z : ◌≡◌ {A = ℕ} 0 1 = cc in absurd (omega arith)
 orders_found (some S) r count bytes before after q f e =
     let c : count ≡ length S = cc in
-    (ap Found c, e ∙ rw c (ap (λ (U : List Pair). order_file U ++ drop (7 + 2 * length S) before) (pairs_found S bytes f.1)))
+    (ap Some c, e ∙ rw c (ap (λ (U : List Pair). order_file U ++ drop (7 + 2 * length S) before) (pairs_found S bytes f.1)))
 
-pub orders_none : (o : Option (List Pair)) (r : Search) (bytes before : List ℕ) → r ≡ Nothing → Finds o r bytes
-    → Orders o Nothing before before
+pub orders_none : (o : math.Option (List Pair)) (r : Option ℕ) (bytes before : List ℕ) → r ≡ None → Finds o r bytes
+    → Orders o None before before
 orders_none none r bytes before q f = (refl, refl)
 orders_none (some S) r bytes before q f = let z : ◌≡◌ {A = ℕ} 0 1 = cc in absurd (omega arith)

@@ -150,11 +150,7 @@ pub const ORDER_2: [u8; 15] = *b"CLO\x02\0\x04\0\0\x01\0\0\x01\0\x01\x01";
 // of one lot and up to 32 calls: the lot's amount, call 30 wants 2, and the others nothing; it ends after the call amounts
 pub fn wide_amounts(calls: u8, lot: u8) -> [u8; 139] {
     let mut file = [0u8; 139];
-    file[0] = b'C';
-    file[1] = b'L';
-    file[2] = b'A';
-    file[3] = 1;
-    file[5] = 1;
+    file[..6].copy_from_slice(b"CLA\x01\0\x01");
     file[6] = calls;
     file[7] = lot;
     file[7 + 4 * 31] = 2;

@@ -9,112 +9,151 @@ mod show;
 mod ticket_panel;
 mod zero_counts;
 
-use specification::Found;
+use specification::{Placed, Refusal};
 use std::io;
 
-// The first `length` bytes of a buffer, or all where it has fewer: the file that stands in it.
-fn file(buffer: &[u8], length: usize) -> &[u8] {
-    if length < buffer.len() {
-        return &buffer[0..length];
-    }
-    buffer
-}
-
-fn check(rt: &impl Print, label: &[u8], book: &[u8], order: &[u8]) -> io::Result<()> {
+fn check(rt: &impl Print, label: &str, book: &[u8], order: &[u8]) -> io::Result<()> {
     show::checked(rt, label, order::check_order(book, order))
 }
 
-fn run(rt: &impl Print, label: &[u8], book: &[u8], order: &[u8], amounts: &[u8]) -> io::Result<()> {
-    let mut flow = [7u32; 5];
-    let answer = run::run_order(book, order, amounts, &mut flow);
-    show::placed(rt, label, b"run_order", answer, &flow)
+// Runs an order, with the flow that is lent.
+fn run_in(
+    rt: &impl Print,
+    label: &str,
+    book: &[u8],
+    order: &[u8],
+    amounts: &[u8],
+    flow: &mut [u32],
+) -> io::Result<()> {
+    let answer = run::run_order(book, order, amounts, flow);
+    show::placed(rt, label, "run_order", answer, flow)
 }
 
-fn find_and_run(rt: &impl Print, label: &[u8], book: &[u8], amounts: &[u8]) -> io::Result<()> {
-    let mut flow = [7u32; 5];
-    let answer = placer::find_and_run(book, amounts, &mut flow);
-    show::placed(rt, label, b"find_and_run", answer, &flow)
+// Finds and runs by the entry point of that name, with the flow that is lent.
+fn find_and_run_by<F: FnOnce(&[u8], &[u8], &mut [u32]) -> Result<Placed, Refusal>>(
+    rt: &impl Print,
+    label: &str,
+    name: &str,
+    entry_point: F,
+    book: &[u8],
+    amounts: &[u8],
+    flow: &mut [u32],
+) -> io::Result<()>
+    requires { F.IsAlwaysCallable entry_point }
+{
+    let answer = entry_point(book, amounts, flow);
+    show::placed(rt, label, name, answer, flow)
 }
 
-fn find_and_run_idle(rt: &impl Print, label: &[u8], book: &[u8], amounts: &[u8]) -> io::Result<()> {
-    let mut flow = [7u32; 7];
-    let answer = placer::find_and_run_idle(book, amounts, &mut flow);
-    show::placed(rt, label, b"find_and_run_idle", answer, &flow)
+// The same with five entries, and seven with an idle call.
+fn run(rt: &impl Print, label: &str, book: &[u8], order: &[u8], amounts: &[u8]) -> io::Result<()> {
+    run_in(rt, label, book, order, amounts, &mut [7; 5])
+}
+
+fn find_and_run(rt: &impl Print, label: &str, book: &[u8], amounts: &[u8]) -> io::Result<()> {
+    find_and_run_by(
+        rt,
+        label,
+        "find_and_run",
+        placer::find_and_run,
+        book,
+        amounts,
+        &mut [7; 5],
+    )
+}
+
+fn find_and_run_idle(rt: &impl Print, label: &str, book: &[u8], amounts: &[u8]) -> io::Result<()> {
+    find_and_run_by(
+        rt,
+        label,
+        "find_and_run_idle",
+        placer::find_and_run_idle,
+        book,
+        amounts,
+        &mut [7; 7],
+    )
 }
 
 // Finds an order, runs the file that was written, and finds and runs in one call.
-fn place(rt: &impl Print, label: &[u8], book: &[u8], amounts: &[u8]) -> io::Result<()> {
+fn place(rt: &impl Print, label: &str, book: &[u8], amounts: &[u8]) -> io::Result<()> {
     let mut order = [255u8; 18];
     let answer = finder::find_order(book, &mut order);
     show::found(rt, label, answer, &order)?;
-    if let Found::Length(length) = answer {
-        run(rt, label, book, file(&order, length), amounts)?;
+    if let Ok(length) = answer {
+        let file = order.get(..length).unwrap_or(&order);
+        run(rt, label, book, file, amounts)?;
     }
     find_and_run(rt, label, book, amounts)
 }
 
 fn f1(rt: &impl Print) -> io::Result<()> {
-    show::counts(rt, b"F1", b"read_book", book::read_book(&given::F1_BOOK))?;
+    show::counts(rt, "F1", "read_book", book::read_book(&given::F1_BOOK))?;
     show::counts(
         rt,
-        b"F1",
-        b"read_amounts",
+        "F1",
+        "read_amounts",
         amounts::read_amounts(&given::F1_BOOK, &given::F1_AMOUNTS),
     )?;
-    place(rt, b"F1", &given::F1_BOOK, &given::F1_AMOUNTS)
+    place(rt, "F1", &given::F1_BOOK, &given::F1_AMOUNTS)
 }
 
 fn f2_to_f4(rt: &impl Print) -> io::Result<()> {
-    check(rt, b"F2", &given::F1_BOOK, &given::F2_ORDER)?;
-    check(rt, b"F3", &given::F1_BOOK, &given::F3_ORDER)?;
-    check(rt, b"F4", &given::F1_BOOK, &given::F4_ORDER)
+    check(rt, "F2", &given::F1_BOOK, &given::F2_ORDER)?;
+    check(rt, "F3", &given::F1_BOOK, &given::F3_ORDER)?;
+    check(rt, "F4", &given::F1_BOOK, &given::F4_ORDER)
 }
 
 fn f5_to_f8(rt: &impl Print) -> io::Result<()> {
-    check(rt, b"F5", &given::F5_BOOK, &given::F2_ORDER)?;
-    check(rt, b"F6", &given::F6_BOOK, &given::F6_ORDER)?;
-    place(rt, b"F7", &given::F6_BOOK, &given::F7_AMOUNTS)?;
-    place(rt, b"F8", &given::F6_BOOK, &given::F8_AMOUNTS)
+    check(rt, "F5", &given::F5_BOOK, &given::F2_ORDER)?;
+    check(rt, "F6", &given::F6_BOOK, &given::F6_ORDER)?;
+    place(rt, "F7", &given::F6_BOOK, &given::F7_AMOUNTS)?;
+    place(rt, "F8", &given::F6_BOOK, &given::F8_AMOUNTS)
 }
 
 // No order exists. A buffer that is too short comes before that, and amounts that are refused before both.
 fn f9(rt: &impl Print) -> io::Result<()> {
     let mut short = [255u8; 18];
     let answer = finder::find_order(&given::F9_BOOK, &mut short);
-    show::found(rt, b"F9, 18 bytes", answer, &short)?;
+    show::found(rt, "F9, 18 bytes", answer, &short)?;
     let mut order = [255u8; 19];
     let answer = finder::find_order(&given::F9_BOOK, &mut order);
-    show::found(rt, b"F9", answer, &order)
+    show::found(rt, "F9", answer, &order)
 }
 
 fn f9_in_one_call(rt: &impl Print) -> io::Result<()> {
-    let mut flow = [7u32; 9];
-    let answer = placer::find_and_run(&given::F9_BOOK, &given::F9_AMOUNTS, &mut flow);
-    show::placed(rt, b"F9", b"find_and_run", answer, &flow)?;
-    find_and_run(rt, b"F9, 5 entries", &given::F9_BOOK, &given::F9_AMOUNTS)?;
-    find_and_run(rt, b"F9, no amounts", &given::F9_BOOK, b"")
+    find_and_run_by(
+        rt,
+        "F9",
+        "find_and_run",
+        placer::find_and_run,
+        &given::F9_BOOK,
+        &given::F9_AMOUNTS,
+        &mut [7; 9],
+    )?;
+    find_and_run(rt, "F9, 5 entries", &given::F9_BOOK, &given::F9_AMOUNTS)?;
+    find_and_run(rt, "F9, no amounts", &given::F9_BOOK, b"")
 }
 
 fn f10_to_f12(rt: &impl Print) -> io::Result<()> {
-    place(rt, b"F10", &given::F10_BOOK, &given::F10_AMOUNTS)?;
-    place(rt, b"F11", &given::F10_BOOK, &given::F11_AMOUNTS)?;
-    place(rt, b"F12", &given::F12_BOOK, &given::F12_AMOUNTS)
+    place(rt, "F10", &given::F10_BOOK, &given::F10_AMOUNTS)?;
+    place(rt, "F11", &given::F10_BOOK, &given::F11_AMOUNTS)?;
+    place(rt, "F12", &given::F12_BOOK, &given::F12_AMOUNTS)
 }
 
 fn f13(rt: &impl Print) -> io::Result<()> {
-    show::counts(rt, b"F13", b"read_book", book::read_book(&given::F13_BOOK))?;
+    show::counts(rt, "F13", "read_book", book::read_book(&given::F13_BOOK))?;
     show::counts(
         rt,
-        b"F13",
-        b"read_amounts",
+        "F13",
+        "read_amounts",
         amounts::read_amounts(&given::F12_BOOK, &given::F13_AMOUNTS),
     )?;
-    place(rt, b"F13", &given::F12_BOOK, &given::F13_AMOUNTS)
+    place(rt, "F13", &given::F12_BOOK, &given::F13_AMOUNTS)
 }
 
 fn f14(rt: &impl Print) -> io::Result<()> {
-    show::counts(rt, b"F14", b"read_book", book::read_book(&given::F14_CALLS))?;
-    show::counts(rt, b"F14", b"read_book", book::read_book(&given::F14_BIT))
+    show::counts(rt, "F14", "read_book", book::read_book(&given::F14_CALLS))?;
+    show::counts(rt, "F14", "read_book", book::read_book(&given::F14_BIT))
 }
 
 // The whole order is checked before the amounts are looked at. The file that is run ends at the length replied: what stands after it in
@@ -122,23 +161,17 @@ fn f14(rt: &impl Print) -> io::Result<()> {
 fn orders_refused(rt: &impl Print) -> io::Result<()> {
     run(
         rt,
-        b"F2",
+        "F2",
         &given::F1_BOOK,
         &given::F2_ORDER,
         &given::F1_AMOUNTS,
     )?;
-    run(
-        rt,
-        b"F2, no amounts",
-        &given::F1_BOOK,
-        &given::F2_ORDER,
-        b"",
-    )?;
+    run(rt, "F2, no amounts", &given::F1_BOOK, &given::F2_ORDER, b"")?;
     let mut order = [255u8; 18];
-    finder::find_order(&given::F1_BOOK, &mut order);
+    let _ = finder::find_order(&given::F1_BOOK, &mut order);
     run(
         rt,
-        b"F1, all of the buffer",
+        "F1, all of the buffer",
         &given::F1_BOOK,
         &order,
         &given::F1_AMOUNTS,
@@ -147,12 +180,18 @@ fn orders_refused(rt: &impl Print) -> io::Result<()> {
 
 // A flow needs an entry for each lot with each call, eligible or not. A lot with no eligible pair is left over, and every call is met: Covered.
 fn few_pairs(rt: &impl Print) -> io::Result<()> {
-    let mut flow = [7u32; 3];
-    let answer = placer::find_and_run(&given::F6_BOOK, &given::F7_AMOUNTS, &mut flow);
-    show::placed(rt, b"F7, 3 entries", b"find_and_run", answer, &flow)?;
+    find_and_run_by(
+        rt,
+        "F7, 3 entries",
+        "find_and_run",
+        placer::find_and_run,
+        &given::F6_BOOK,
+        &given::F7_AMOUNTS,
+        &mut [7; 3],
+    )?;
     place(
         rt,
-        b"Lot with no eligible pair",
+        "Lot with no eligible pair",
         &given::LONE_BOOK,
         &given::LONE_AMOUNTS,
     )
@@ -162,65 +201,63 @@ fn few_pairs(rt: &impl Print) -> io::Result<()> {
 fn left_and_lacking(rt: &impl Print) -> io::Result<()> {
     place(
         rt,
-        b"Lot left and call lacking",
+        "Lot left and call lacking",
         &given::F6_BOOK,
         &given::STRANDED_AMOUNTS,
     )?;
-    place(rt, b"Nothing asked", &given::F6_BOOK, &given::IDLE_AMOUNTS)
+    place(rt, "Nothing asked", &given::F6_BOOK, &given::IDLE_AMOUNTS)
 }
 
 // The plain run leaves the cheap lot idle; with an idle call the dear one stays. Equal totals and no amounts at all are Full.
 fn stock_to_spare(rt: &impl Print) -> io::Result<()> {
-    find_and_run(rt, b"Spare", &given::SPARE_BOOK, &given::SPARE_AMOUNTS)?;
-    find_and_run_idle(rt, b"Spare", &given::SPARE_BOOK, &given::SPARE_AMOUNTS)?;
-    find_and_run_idle(rt, b"F1", &given::F1_BOOK, &given::F1_AMOUNTS)?;
-    find_and_run_idle(rt, b"No amounts", &given::SPARE_BOOK, &given::NO_AMOUNTS)
+    find_and_run(rt, "Spare", &given::SPARE_BOOK, &given::SPARE_AMOUNTS)?;
+    find_and_run_idle(rt, "Spare", &given::SPARE_BOOK, &given::SPARE_AMOUNTS)?;
+    find_and_run_idle(rt, "F1", &given::F1_BOOK, &given::F1_AMOUNTS)?;
+    find_and_run_idle(rt, "No amounts", &given::SPARE_BOOK, &given::NO_AMOUNTS)
 }
 
 // A lot with no eligible call may stay idle, and a call that it alone could meet still lacks. Of six lots the five with a cost stay idle, more units
 // than 32 bits hold.
 fn lots_that_stay(rt: &impl Print) -> io::Result<()> {
-    find_and_run_idle(rt, b"F8", &given::F6_BOOK, &given::F8_AMOUNTS)?;
-    find_and_run_idle(rt, b"F10", &given::F10_BOOK, &given::F10_AMOUNTS)?;
-    find_and_run_idle(rt, b"Dear lot", &given::DEAR_BOOK, &given::DEAR_AMOUNTS)?;
-    find_and_run_idle(rt, b"Six lots", &given::SIX_BOOK, &given::SIX_AMOUNTS)
+    find_and_run_idle(rt, "F8", &given::F6_BOOK, &given::F8_AMOUNTS)?;
+    find_and_run_idle(rt, "F10", &given::F10_BOOK, &given::F10_AMOUNTS)?;
+    find_and_run_idle(rt, "Dear lot", &given::DEAR_BOOK, &given::DEAR_AMOUNTS)?;
+    find_and_run_idle(rt, "Six lots", &given::SIX_BOOK, &given::SIX_AMOUNTS)
 }
 
 // The book has an order, and the enlarged one has none. 17 is about the book's own m and comes before 13, 18 before 17, and 16 before 18.
 fn idle_refused(rt: &impl Print) -> io::Result<()> {
-    let mut flow = [7u32; 6];
-    let answer = placer::find_and_run(&given::CORNERS_BOOK, &given::CORNERS_AMOUNTS, &mut flow);
-    show::placed(rt, b"Corners", b"find_and_run", answer, &flow)?;
-    find_and_run_idle(
+    find_and_run_by(
         rt,
-        b"Corners",
+        "Corners",
+        "find_and_run",
+        placer::find_and_run,
         &given::CORNERS_BOOK,
         &given::CORNERS_AMOUNTS,
+        &mut [7; 6],
     )?;
-    let mut short = [7u32; 5];
-    let answer = placer::find_and_run_idle(
+    find_and_run_idle(rt, "Corners", &given::CORNERS_BOOK, &given::CORNERS_AMOUNTS)?;
+    find_and_run_by(
+        rt,
+        "Corners, 5 entries",
+        "find_and_run_idle",
+        placer::find_and_run_idle,
         &given::CORNERS_BOOK,
         &given::CORNERS_AMOUNTS,
-        &mut short,
-    );
-    show::placed(
-        rt,
-        b"Corners, 5 entries",
-        b"find_and_run_idle",
-        answer,
-        &short,
+        &mut [7; 5],
     )?;
-    let answer = placer::find_and_run_idle(&given::CORNERS_BOOK, &given::CORNERS_LESS, &mut short);
-    show::placed(
+    find_and_run_by(
         rt,
-        b"Corners, calls above lots",
-        b"find_and_run_idle",
-        answer,
-        &short,
+        "Corners, calls above lots",
+        "find_and_run_idle",
+        placer::find_and_run_idle,
+        &given::CORNERS_BOOK,
+        &given::CORNERS_LESS,
+        &mut [7; 5],
     )?;
     find_and_run_idle(
         rt,
-        b"Call above the limit",
+        "Call above the limit",
         &given::F12_BOOK,
         &given::HIGH_CALL,
     )
@@ -229,18 +266,24 @@ fn idle_refused(rt: &impl Print) -> io::Result<()> {
 // With 31 calls the idle one is the last that fits; with 32 there is none, which is told after 18 and before 17.
 fn many_calls(rt: &impl Print) -> io::Result<()> {
     let amounts = given::wide_amounts(31, 3);
-    let mut flow = [7u32; 32];
-    let answer = placer::find_and_run_idle(&given::WIDE_BOOK, file(&amounts, 135), &mut flow);
-    show::placed(rt, b"31 calls", b"find_and_run_idle", answer, &flow)?;
+    find_and_run_by(
+        rt,
+        "31 calls",
+        "find_and_run_idle",
+        placer::find_and_run_idle,
+        &given::WIDE_BOOK,
+        amounts.get(..135).unwrap_or(&amounts),
+        &mut [7; 32],
+    )?;
     find_and_run_idle(
         rt,
-        b"32 calls",
+        "32 calls",
         &given::WIDEST_BOOK,
         &given::wide_amounts(32, 3),
     )?;
     find_and_run_idle(
         rt,
-        b"32 calls, above the lot",
+        "32 calls, above the lot",
         &given::WIDEST_BOOK,
         &given::wide_amounts(32, 1),
     )
@@ -248,17 +291,17 @@ fn many_calls(rt: &impl Print) -> io::Result<()> {
 
 // A least cost may be below zero. With an idle call, whose cost is 0, the lot with the rebate is placed and the dear one stays.
 fn rebates(rt: &impl Print) -> io::Result<()> {
-    place(rt, b"Rebates", &given::REBATES_BOOK, &given::F1_AMOUNTS)?;
-    place(rt, b"Lowest cost", &given::LOWEST_BOOK, &given::F12_AMOUNTS)?;
+    place(rt, "Rebates", &given::REBATES_BOOK, &given::F1_AMOUNTS)?;
+    place(rt, "Lowest cost", &given::LOWEST_BOOK, &given::F12_AMOUNTS)?;
     find_and_run(
         rt,
-        b"One rebate",
+        "One rebate",
         &given::ONE_REBATE_BOOK,
         &given::ONE_REBATE_AMOUNTS,
     )?;
     find_and_run_idle(
         rt,
-        b"One rebate",
+        "One rebate",
         &given::ONE_REBATE_BOOK,
         &given::ONE_REBATE_AMOUNTS,
     )
@@ -268,19 +311,19 @@ fn rebates(rt: &impl Print) -> io::Result<()> {
 fn versions(rt: &impl Print) -> io::Result<()> {
     show::counts(
         rt,
-        b"Version 3 of a book",
-        b"read_book",
+        "Version 3 of a book",
+        "read_book",
         book::read_book(&given::BOOK_3),
     )?;
     check(
         rt,
-        b"Version 2 of an order",
+        "Version 2 of an order",
         &given::REBATES_BOOK,
         &given::ORDER_2,
     )?;
     run(
         rt,
-        b"Version 2 of an order",
+        "Version 2 of an order",
         &given::REBATES_BOOK,
         &given::ORDER_2,
         &given::F1_AMOUNTS,

@@ -1,144 +1,123 @@
 // What an entry point answered, on one line: a label, the entry point, and the reply in document 01's words. A refusal is its number and
 // its values; an order is written as its pairs, and a flow with all the entries that were lent.
-use specification::{Call, Checked, Counts, Found, Lot, Placed, Refusal};
-use std::io;
+use specification::{Counts, Placed, Refusal};
+use std::{fmt, io};
 
-fn word(rt: &impl Print, text: &[u8]) -> io::Result<()> {
-    rt.write_all(text)
-}
+// The count of pairs of an order that passes.
+#[derive(Clone, Copy)]
+struct Passes(usize);
 
-fn opening(rt: &impl Print, label: &[u8], entry_point: &[u8]) -> io::Result<()> {
-    word(rt, label)?;
-    word(rt, b" ")?;
-    word(rt, entry_point)?;
-    word(rt, b":")
-}
-
-fn number(rt: &impl Print, n: u64) -> io::Result<()> {
-    word(rt, b" ")?;
-    rt.print(n)
-}
-
-fn pair(rt: &impl Print, lot: Lot, call: Call) -> io::Result<()> {
-    number(rt, lot.0 as u64)?;
-    number(rt, call.0 as u64)
-}
-
-fn quadruple(rt: &impl Print, i: Lot, j: Call, k: Lot, l: Call) -> io::Result<()> {
-    pair(rt, i, j)?;
-    pair(rt, k, l)
-}
-
-fn refusal(rt: &impl Print, r: Refusal) -> io::Result<()> {
-    word(rt, b" refused")?;
-    number(rt, files::number(r) as u64)?;
-    match r {
-        Refusal::BitOutside(lot) => number(rt, lot.0 as u64),
-        Refusal::CostTooHigh(lot, call) => pair(rt, lot, call),
-        Refusal::PairNotEligible(place) => number(rt, place as u64),
-        Refusal::PairMetBefore(place) => number(rt, place as u64),
-        Refusal::CrossNotEligible(i, j, k, l) => quadruple(rt, i, j, k, l),
-        Refusal::CrossSumTooHigh(i, j, k, l) => quadruple(rt, i, j, k, l),
-        _ => Ok(()),
+impl fmt::Display for Passes {
+    fn fmt<W: fmt::Write>(&self, f: &mut fmt::Formatter<W>) -> fmt::Result {
+        write!(f, "passes {}", self.0)
     }
 }
 
-pub fn counts(rt: &impl Print, label: &[u8], entry_point: &[u8], answer: Counts) -> io::Result<()> {
-    opening(rt, label, entry_point)?;
-    match answer {
-        Counts::Are(n, m) => {
-            number(rt, n as u64)?;
-            number(rt, m as u64)?;
+// The length of an order file, and its pairs, each as lot and call with nothing between them.
+#[derive(Clone, Copy)]
+struct Written<'a> {
+    length: usize,
+    order: &'a [u8],
+}
+
+impl fmt::Display for Written<'_> {
+    fn fmt<W: fmt::Write>(&self, f: &mut fmt::Formatter<W>) -> fmt::Result {
+        write!(f, "{}, order", self.length)?;
+        let (pairs, _) = self
+            .order
+            .get(7..self.length)
+            .unwrap_or(&[])
+            .as_chunks::<2>();
+        for [lot, call] in pairs {
+            write!(f, " {lot}{call}")?;
         }
-        Counts::Refused(r) => refusal(rt, r)?,
+        Ok(())
     }
-    word(rt, b"\n")
 }
 
-pub fn checked(rt: &impl Print, label: &[u8], answer: Checked) -> io::Result<()> {
-    opening(rt, label, b"check_order")?;
-    match answer {
-        Checked::Passes(count) => {
-            word(rt, b" passes")?;
-            number(rt, count as u64)?;
+// The entries of a flow.
+#[derive(Clone, Copy)]
+struct Flow<'a>(&'a [u32]);
+
+impl fmt::Display for Flow<'_> {
+    fn fmt<W: fmt::Write>(&self, f: &mut fmt::Formatter<W>) -> fmt::Result {
+        for units in self.0 {
+            write!(f, " {units}")?;
         }
-        Checked::Refused(r) => refusal(rt, r)?,
+        Ok(())
     }
-    word(rt, b"\n")
 }
 
-// A pair of an order file, as lot and call with nothing between them.
-fn listed(rt: &impl Print, order: &[u8], place: u16) -> io::Result<()> {
-    let at = 7 + 2 * (place as usize);
-    word(rt, b" ")?;
-    rt.print(files::u8_at(order, at) as u64)?;
-    rt.print(files::u8_at(order, at + 1) as u64)
-}
+// n and m.
+#[derive(Clone, Copy)]
+struct Read(Counts);
 
-fn pairs(rt: &impl Print, order: &[u8], count: u16) -> io::Result<()> {
-    let mut place: u16 = 0;
-    while place < count {
-        listed(rt, order, place)?;
-        place += 1;
+impl fmt::Display for Read {
+    fn fmt<W: fmt::Write>(&self, f: &mut fmt::Formatter<W>) -> fmt::Result {
+        write!(f, "{} {}", self.0.lots, self.0.calls)
     }
-    Ok(())
 }
 
-pub fn found(rt: &impl Print, label: &[u8], answer: Found, order: &[u8]) -> io::Result<()> {
-    opening(rt, label, b"find_order")?;
-    match answer {
-        Found::Length(length) => {
-            number(rt, length as u64)?;
-            word(rt, b", order")?;
-            pairs(rt, order, files::u16_at(order, 5))?;
+// Whether anything is left in the lots or lacks in the calls, with the units and the cost.
+#[derive(Clone, Copy)]
+struct Verdict(Placed);
+
+impl fmt::Display for Verdict {
+    fn fmt<W: fmt::Write>(&self, f: &mut fmt::Formatter<W>) -> fmt::Result {
+        match self.0 {
+            Placed::Full(units, cost) => write!(f, "Full {units} {cost}"),
+            Placed::Covered(units, cost) => write!(f, "Covered {units} {cost}"),
+            Placed::Short(units, cost) => write!(f, "Short {units} {cost}"),
         }
-        Found::Refused(r) => refusal(rt, r)?,
     }
-    word(rt, b"\n")
 }
 
-fn entry(rt: &impl Print, units: u32) -> io::Result<()> {
-    number(rt, units as u64)
-}
+// What was answered where nothing was refused, and else the refusal.
+#[derive(Clone, Copy)]
+struct Answer<T>(Result<T, Refusal>);
 
-fn entries(rt: &impl Print, flow: &[u32]) -> io::Result<()> {
-    let mut k: usize = 0;
-    while k < flow.len() {
-        entry(rt, flow[k])?;
-        k += 1;
+impl<T: fmt::Display> fmt::Display for Answer<T> {
+    fn fmt<W: fmt::Write>(&self, f: &mut fmt::Formatter<W>) -> fmt::Result {
+        match &self.0 {
+            Ok(told) => write!(f, "{told}"),
+            Err(refusal) => write!(f, "refused {refusal}"),
+        }
     }
-    Ok(())
 }
 
-fn signed(rt: &impl Print, v: i64) -> io::Result<()> {
-    word(rt, b" ")?;
-    if signed::below_zero(v) {
-        word(rt, b"-")?;
-    }
-    rt.print(signed::size(v))
+pub fn counts(
+    rt: &impl Print,
+    label: &str,
+    entry_point: &str,
+    answer: Result<Counts, Refusal>,
+) -> io::Result<()> {
+    println!(rt; "{label} {entry_point}: {}", Answer(answer.map(Read)))
 }
 
-fn verdict(rt: &impl Print, name: &[u8], units: u64, cost: i64) -> io::Result<()> {
-    word(rt, name)?;
-    number(rt, units)?;
-    signed(rt, cost)
+pub fn checked(rt: &impl Print, label: &str, answer: Result<usize, Refusal>) -> io::Result<()> {
+    println!(rt; "{label} check_order: {}", Answer(answer.map(Passes)))
+}
+
+pub fn found(
+    rt: &impl Print,
+    label: &str,
+    answer: Result<usize, Refusal>,
+    order: &[u8],
+) -> io::Result<()> {
+    let answer = answer.map(|length| Written { length, order });
+    println!(rt; "{label} find_order: {}", Answer(answer))
 }
 
 pub fn placed(
     rt: &impl Print,
-    label: &[u8],
-    entry_point: &[u8],
-    answer: Placed,
+    label: &str,
+    entry_point: &str,
+    answer: Result<Placed, Refusal>,
     flow: &[u32],
 ) -> io::Result<()> {
-    opening(rt, label, entry_point)?;
-    match answer {
-        Placed::Full(units, cost) => verdict(rt, b" Full", units, cost)?,
-        Placed::Covered(units, cost) => verdict(rt, b" Covered", units, cost)?,
-        Placed::Short(units, cost) => verdict(rt, b" Short", units, cost)?,
-        Placed::Refused(r) => refusal(rt, r)?,
-    }
-    word(rt, b", flow")?;
-    entries(rt, flow)?;
-    word(rt, b"\n")
+    println!(rt;
+        "{label} {entry_point}: {}, flow{}",
+        Answer(answer.map(Verdict)),
+        Flow(flow)
+    )
 }

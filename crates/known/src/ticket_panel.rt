@@ -26,125 +26,160 @@ const LOTS_ALONE_AMOUNTS: [u8; 39] =
 const CALLS_ALONE_AMOUNTS: [u8; 39] =
     *b"CLA\x01\0\0\x08\x03\0\0\0\0\0\0\0\0\0\0\0\0\0\0\0\0\0\0\0\0\0\0\0\0\0\0\0\0\0\0\0";
 
-// Puts the row of a lot into a book of 8 by 8: it is eligible for all calls, for call j at cost (7 - lot) * j.
-fn put_row(book: &mut [u8; 295], lot: u8) {
-    if lot < 8 {
-        let row = 7 + 36 * lot as usize;
-        let step = 7 - lot;
-        book[row] = 255;
-        book[row + 8] = step;
-        book[row + 12] = 2 * step;
-        book[row + 16] = 3 * step;
-        book[row + 20] = 4 * step;
-        book[row + 24] = 5 * step;
-        book[row + 28] = 6 * step;
-        book[row + 32] = 7 * step;
+// The row of a lot that is eligible for all 8 calls, each at so many times its number.
+fn fill_row(row: &mut [u8; 36], times: u8) {
+    row[0] = 255;
+    let (costs, _) = row[4..].as_chunks_mut::<4>();
+    for (call, place) in (0..8u8).zip(costs) {
+        let cost = u32::from(times) * u32::from(call);
+        *place = cost.to_le_bytes();
     }
 }
 
-// 8 by 8, with all 64 pairs.
+// 8 by 8, with all 64 pairs, lot i with call j at cost (7 - i) * j.
 fn eight_by_eight() -> [u8; 295] {
     let mut book = [0u8; 295];
-    files::write_opening(&mut book, &files::BOOK_MARK, 8 + 256 * 8);
-    for lot in 0..8 {
-        put_row(&mut book, lot);
+    files::write_opening(&mut book, &files::BOOK_MARK, u16::from_le_bytes([8, 8]));
+    let (rows, _) = book[7..].as_chunks_mut::<36>();
+    for (times, row) in (0..8).rev().zip(rows) {
+        fill_row(row, times);
     }
     book
 }
 
-// The same in version 2, with a rebate: (0, 7) at cost -1,000,000, the lowest there is.
+// The same book in version 2, with a rebate: (0, 7) at cost -1,000,000, the lowest there is.
 fn with_rebate() -> [u8; 295] {
     let mut book = eight_by_eight();
     book[3] = 2;
-    book[39] = 0xc0;
-    book[40] = 0xbd;
-    book[41] = 0xf0;
-    book[42] = 0xff;
+    let (numbers, _) = book[7..].as_chunks_mut::<4>();
+    numbers[8] = (-1_000_000i32).to_le_bytes();
     book
 }
 
-pub fn find_and_run(
+// The first book without its last pair, (7, 7), in the first 291 bytes.
+fn with_gap() -> [u8; 295] {
+    let mut book = eight_by_eight();
+    let (rows, _) = book[7..].as_chunks_mut::<36>();
+    // The word's lowest byte.
+    rows[7][0] = 127;
+    book
+}
+
+// Both entry points, each with a flow whose entries are 7.
+pub fn both(
     rt: &impl Print,
-    label: &[u8],
+    label: &str,
     book: &[u8],
     amounts: &[u8],
     flow: &mut [u32],
 ) -> io::Result<()> {
-    let answer = placer::find_and_run(book, amounts, flow);
-    super::show::placed(rt, label, b"find_and_run", answer, flow)
-}
-
-pub fn find_and_run_panel(
-    rt: &impl Print,
-    label: &[u8],
-    book: &[u8],
-    amounts: &[u8],
-    flow: &mut [u32],
-) -> io::Result<()> {
-    let answer = placer::find_and_run_panel(book, amounts, flow);
-    super::show::placed(rt, label, b"find_and_run_panel", answer, flow)
-}
-
-// Both, with flows of five entries.
-pub fn in_five(rt: &impl Print, label: &[u8], book: &[u8], amounts: &[u8]) -> io::Result<()> {
-    find_and_run(rt, label, book, amounts, &mut [7u32; 5])?;
-    find_and_run_panel(rt, label, book, amounts, &mut [7u32; 5])
-}
-
-// Both, with flows of 65, one more than 8 by 8 needs.
-fn in_65(rt: &impl Print, label: &[u8], book: &[u8]) -> io::Result<()> {
-    find_and_run(rt, label, book, &EIGHT_AMOUNTS, &mut [7u32; 65])?;
-    find_and_run_panel(rt, label, book, &EIGHT_AMOUNTS, &mut [7u32; 65])
+    super::find_and_run_by(
+        rt,
+        label,
+        "find_and_run",
+        placer::find_and_run,
+        book,
+        amounts,
+        flow,
+    )?;
+    flow.fill(7);
+    super::find_and_run_by(
+        rt,
+        label,
+        "find_and_run_panel",
+        placer::find_and_run_panel,
+        book,
+        amounts,
+        flow,
+    )
 }
 
 // F1, and F9, which has no order. A desk with 8 lots and no calls, and one with 8 calls and no lots, in version 2.
 pub fn within_eight(rt: &impl Print) -> io::Result<()> {
-    find_and_run_panel(
+    super::find_and_run_by(
         rt,
-        b"F1",
+        "F1",
+        "find_and_run_panel",
+        placer::find_and_run_panel,
         &super::given::F1_BOOK,
         &super::given::F1_AMOUNTS,
-        &mut [7u32; 5],
+        &mut [7; 5],
     )?;
-    find_and_run_panel(
+    super::find_and_run_by(
         rt,
-        b"F9",
+        "F9",
+        "find_and_run_panel",
+        placer::find_and_run_panel,
         &super::given::F9_BOOK,
         &super::given::F9_AMOUNTS,
-        &mut [7u32; 9],
+        &mut [7; 9],
     )?;
-    in_five(rt, b"8 lots alone", &LOTS_ALONE, &LOTS_ALONE_AMOUNTS)?;
-    in_five(
+    both(
         rt,
-        b"8 calls alone",
+        "8 lots alone",
+        &LOTS_ALONE,
+        &LOTS_ALONE_AMOUNTS,
+        &mut [7; 5],
+    )?;
+    both(
+        rt,
+        "8 calls alone",
         b"CLB\x02\0\0\x08",
         &CALLS_ALONE_AMOUNTS,
+        &mut [7; 5],
     )
 }
 
-// The order found begins at (0, 0), with the rebate at (0, 7), and without the last pair, (7, 7), at (6, 7). A flow of 63 entries is too short.
+// A flow needs 64 entries: of 65 the last is kept, and 63 are too few. The order found begins at (0, 0), with the rebate at (0, 7), and without
+// the last pair, (7, 7), at (6, 7).
 pub fn eight(rt: &impl Print) -> io::Result<()> {
-    let mut book = eight_by_eight();
-    in_65(rt, b"8 by 8", &book)?;
-    find_and_run_panel(
+    let book = eight_by_eight();
+    both(rt, "8 by 8", &book, &EIGHT_AMOUNTS, &mut [7; 65])?;
+    super::find_and_run_by(
         rt,
-        b"8 by 8, 63 entries",
+        "8 by 8, 63 entries",
+        "find_and_run_panel",
+        placer::find_and_run_panel,
         &book,
         &EIGHT_AMOUNTS,
-        &mut [7u32; 63],
+        &mut [7; 63],
     )?;
-    in_65(rt, b"8 by 8 with a rebate", &with_rebate())?;
-    book[7 + 36 * 7] = 127;
-    in_65(rt, b"8 by 8 less a pair", super::file(&book, 291))
+    both(
+        rt,
+        "8 by 8 with a rebate",
+        &with_rebate(),
+        &EIGHT_AMOUNTS,
+        &mut [7; 65],
+    )?;
+    let gap = with_gap();
+    let gap = gap.get(..291).unwrap_or(&gap);
+    both(rt, "8 by 8 less a pair", gap, &EIGHT_AMOUNTS, &mut [7; 65])
 }
 
 // 20 comes after 3 and 4 and before 6. A whole book of 9 lots is 20 for the panel, and `find_and_run` runs it.
 pub fn above_eight(rt: &impl Print) -> io::Result<()> {
-    in_five(rt, b"9 by 1, rows missing", b"CLB\x01\0\x09\x01", b"")?;
-    in_five(rt, b"1 by 9, rows missing", b"CLB\x01\0\x01\x09", b"")?;
-    in_five(rt, b"33 by 9", b"CLB\x01\0\x21\x09", b"")?;
-    in_five(rt, b"9 by 33", b"CLB\x01\0\x09\x21", b"")?;
-    in_five(rt, b"9 by 1 in version 3", b"CLB\x03\0\x09\x01", b"")?;
-    find_and_run(rt, b"9 by 1", &NINE_BOOK, &NINE_AMOUNTS, &mut [7u32; 9])?;
-    find_and_run_panel(rt, b"9 by 1", &NINE_BOOK, &NINE_AMOUNTS, &mut [7u32; 9])
+    both(
+        rt,
+        "9 by 1, rows missing",
+        b"CLB\x01\0\x09\x01",
+        b"",
+        &mut [7; 5],
+    )?;
+    both(
+        rt,
+        "1 by 9, rows missing",
+        b"CLB\x01\0\x01\x09",
+        b"",
+        &mut [7; 5],
+    )?;
+    both(rt, "33 by 9", b"CLB\x01\0\x21\x09", b"", &mut [7; 5])?;
+    both(rt, "9 by 33", b"CLB\x01\0\x09\x21", b"", &mut [7; 5])?;
+    both(
+        rt,
+        "9 by 1 in version 3",
+        b"CLB\x03\0\x09\x01",
+        b"",
+        &mut [7; 5],
+    )?;
+    both(rt, "9 by 1", &NINE_BOOK, &NINE_AMOUNTS, &mut [7; 9])
 }

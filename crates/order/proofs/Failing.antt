@@ -17,13 +17,10 @@ use Rattle.transport.proofs.Orders.Lists.{Lists, lists_head, lists_tail}
 use Rattle.transport.proofs.Orders.Monge.{Fits}
 use Rattle.transport.proofs.Finder.Free.{free_says, free_of}
 use Rattle.transport.proofs.Finder.Standing.{standing, free_iff_after}
-use Rattle.specification.specs.Reply.{Reply, gives, ◌>>=◌}
+use Rattle.specification.specs.Reply.{Reply, gives, refuses, ◌>>=◌}
 use Rattle.specification.specs.Check.{both_in, check_quadruple, in_turn, check_monge}
 use Rattle.specification.proofs.Crossing.{pair_holds}
 use Rattle.specification.proofs.Quadruples.{quadruple_holds}
-use Rattle.files.specs.Files.{stated_step}
-use Rattle.files.specs.declared.Step.{Step}
-use Rattle.files.specs.declared.Step.TheVariants.{Passes, Refused}
 use Rattle.book.specs.Table.{entry}
 use Rattle.walk.specs.Places.{order_pair, rest}
 use Rattle.walk.specs.Walk.{free_at, LowestNotFree}
@@ -96,13 +93,13 @@ module _ (P : Problem) (inside : (i j : ℕ) → T (P.admits i j) → Eligible P
     unfolding check_monge
     nothing_fails e = to_lowest ∙ rw (e, rest_none order count)
 
-    pub first_failure : r < count → (found : Step) → stated_step found ≡ at r → stated_step found ≡ check_monge P (rest order count 0)
+    pub first_failure : r < count → (found : Reply (Unit {0})) → found ≡ at r → found ≡ check_monge P (rest order count 0)
     first_failure h found says = sym (to_lowest ∙ monge_step r h ∙ ap (λ (a : Reply (Unit {0})). a >>= λ _.
         check_monge P (rest order count (r + 1))) (sym says) ∙ ends found says)
       where
-        ends : (s : Step) → stated_step s ≡ at r → (stated_step s >>= λ _. check_monge P (rest order count (r + 1))) ≡ stated_step s
-        ends Passes given = absurd (subst T (lowest.not_free h) ((at_exactly r h).0 (sym given)))
-        ends (Refused x) given = refl
+        ends : (s : Reply (Unit {0})) → s ≡ at r → (s >>= λ _. check_monge P (rest order count (r + 1))) ≡ s
+        ends (gives u) given = absurd (subst T (lowest.not_free h) ((at_exactly r h).0 (sym given)))
+        ends (refuses k vs) given = refl
 
 -- the quadruples of the pair at a place, by the array of places
 module _ (P : Problem) (places order : List ℕ) (count : ℕ) (few_lots : P.lots ≤ 32) (few_calls : P.calls ≤ 32)

@@ -1,4 +1,3 @@
 -- The check of an order.
 pub mod Noted  -- the places of the pairs before a place, and arrays of places
-pub mod Asked  -- what the functions ask
 pub mod Answers  -- what their answers say

@@ -4,22 +4,20 @@
 #![tactic(auto)]
 
 pub mod inner;
+mod pairs;
 mod places;
 
 ghost use Rattle.std.specs.Prelude.{◌≡◌};
 ghost use Rattle.specification.specs.Check.{check_order};
-ghost use Rattle.specification.specs.Reply.{stated_checked};
+ghost use Rattle.specification.specs.Reply.{told};
 
-use specification::{Checked, Counts};
+use book::Book;
+use specification::Refusal;
 
-// The check of an order: the refusals of the book, then of the order.
-pub fn check_order(book: &[u8], order: &[u8]) -> Checked
-    ensures { stated_checked result ≡ check_order book.now order.now }
+// The check of an order: the refusals of the book, then of the order; the answer is its count of pairs.
+pub fn check_order(book: &[u8], order: &[u8]) -> Result<usize, Refusal>
+    ensures { told result ≡ check_order book.now order.now }
 {
-    let counts = book::read_book(book);
-    let Counts::Are(n, m) = counts else {
-        return Checked::Refused(files::refusal_of(counts));
-    };
-    let offsets = book::inner::offsets(book, n);
-    inner::check_by(book, &offsets, n, m, order)
+    let read = Book::read(book)?;
+    Ok(inner::check_by(&read, order)?.count)
 }

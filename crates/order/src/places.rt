@@ -1,66 +1,47 @@
 // The pairs of an order by place: 9 and 10 at each, and the array of their places.
-ghost use Rattle.std.specs.Prelude.{◌<◌, ◌≤◌};
-ghost use Rattle.order.specs.Noted.{Shows};
-ghost use Rattle.order.specs.Asked.{CanWalk};
-ghost use Rattle.order.specs.Answers.{Met, PlacesFilled};
+ghost use Rattle.std.specs.Prelude.{◌≡◌, [], ◌+◌, ◌*◌, ◌<◌, ltb, IfOk, set};
+ghost use Rattle.transport.specs.Problem.{Eligible};
+ghost use Rattle.specification.specs.Book.{problem_of};
+ghost use Rattle.specification.specs.Check.{check_pairs};
+ghost use Rattle.specification.specs.Reply.{told};
+ghost use Rattle.book.specs.Table.{entry};
+ghost use Rattle.walk.specs.Places.{rest};
+ghost use Rattle.order.specs.Noted.{met_at, Shows};
+ghost use Rattle.order.specs.Answers.{one_pair};
 
-use files::Step;
+use super::pairs::Check;
 use specification::{Call, Lot, Refusal};
-use walk::places::{call_at, lot_at};
 
-// One pair of an order, at a place: refused where it is not eligible or was met before, and else its place is noted, one more than it is.
-fn meet(
-    offsets: &[u16; 1024],
-    n: usize,
-    m: usize,
-    i: Lot,
-    j: Call,
-    place: usize,
-    places: &mut [u16; 1024],
-) -> Step
-    requires { (n ≤ 32) × (m ≤ 32) × (place < 65535) }
-    ensures { Met offsets.now n m i.0 j.0 place places.old result places.new }
-{
-    if !book::inner::eligible(offsets, n, m, i, j) {
-        return Step::Refused(Refusal::PairNotEligible(place));
+impl<'a, 'o> Check<'a, 'o> {
+    // One pair of an order, at a place: refused where it is not eligible or was met before, and else its place is noted, one more than it is.
+    fn meet(&self, i: Lot, j: Call, place: usize, places: &mut [u16; 1024]) -> Result<(), Refusal>
+        requires { place < 65535 }
+        ensures says { told result ≡ one_pair (problem_of self.now.book.now.bytes.now) i.0 j.0 (ltb 0 (entry places.old i.0 j.0)) place }
+        ensures eligible { IfOk result (λ _. Eligible (problem_of self.now.book.now.bytes.now) i.0 j.0) }
+        ensures noted { IfOk result (λ _. places.new ≡ set places.old (32 * i.0 + j.0) (place + 1)) }
+    {
+        if !book::inner::eligible(self.offsets, self.book.counts, i, j) {
+            return Err(Refusal::PairNotEligible(place));
+        }
+        let at = 32 * i.0 + j.0;
+        if places[at] > 0 {
+            return Err(Refusal::PairMetBefore(place));
+        }
+        places[at] = (place + 1) as u16;
+        Ok(())
     }
-    let met = book::inner::entry_of(places, i, j);
-    if met > 0 {
-        return Step::Refused(Refusal::PairMetBefore(place));
-    }
-    let lot = i.0;
-    let call = j.0;
-    places[32 * lot + call] = (place + 1) as u16;
-    Step::Passes
-}
 
-// The pairs of an order in turn, each as `meet` says; where none is refused, the array then holds each pair's place, one more than it is.
-pub fn fill_places(
-    offsets: &[u16; 1024],
-    n: usize,
-    m: usize,
-    order: &[u8],
-    count: usize,
-    places: &mut [u16; 1024],
-) -> Step
-    requires { CanWalk order.now count n m × Shows 32 32 places.old (λ i j. 0) }
-    ensures { PlacesFilled offsets.now order.now count n m result places.new }
-{
-    let mut p: usize = 0;
-    while p < count {
-        let met = meet(
-            offsets,
-            n,
-            m,
-            lot_at(order, p),
-            call_at(order, p),
-            p,
-            places,
-        );
-        let Step::Passes = met else {
-            return met;
-        };
-        p += 1;
+    // The pairs of the order in turn, each as `meet` says; where none is refused, the array then holds each pair's place, one more than it is.
+    pub fn fill_places(&self, places: &mut [u16; 1024]) -> Result<(), Refusal>
+        requires { Shows 32 32 places.old (λ i j. 0) }
+        ensures says { told result
+            ≡ check_pairs (problem_of self.now.book.now.bytes.now) [] 0 (rest self.now.pairs.order.now self.now.pairs.count 0) }
+        ensures shows { IfOk result (λ _. Shows 32 32 places.new (met_at self.now.pairs.order.now self.now.pairs.count)) }
+    {
+        for place in 0..self.pairs.count {
+            let (i, j) = self.pairs.at(place);
+            self.meet(i, j, place, places)?;
+        }
+        Ok(())
     }
-    Step::Passes
 }

@@ -1,10 +1,12 @@
 -- Finding and running past the refusals of the files. A book's table states its problem, so what is found in the table is what is found for the
 -- book, and the state that the search ends in is GREEDY's by the order found: its reply and its units are those of the definition.
-use mathlib.Core.Path.{◌≡◌, refl, sym, ◌∙◌, ap}
+use mathlib.Core.Path.{◌≡◌, refl, sym, ◌∙◌, ap, subst}
 use mathlib.Core.Logic.{by_cases}
-use mathlib.Core.Bool.{true, false, not, true≢false, and-true}
+use mathlib.Core.Bool.{true, not, true≢false, and-true}
 use mathlib.Core.List.{List, [], ◌++◌}
 use mathlib.Core.Option.{Option, some, none}
+use Rattle.std.specs.Prelude.{Some, None}
+use Rattle.std.specs.Prelude as prelude
 use Prim.Native.Nat.{ℕ, ◌*◌, ◌≤◌, ◌<◌}
 use native.Mathlib.Nat.{mul-le-mul}
 use native.Mathlib.Decide.{dec_lt}
@@ -12,7 +14,7 @@ use native.Mathlib.Omega.{arith}
 use borrow.Author.Tests.{eq-eqb}
 use lib.Dec.{eqb}
 use lib.IntN.{ℤ, pos, ◌-ℤ◌}
-use lib.ListN.{length, get_or, take, drop, replicate, length-replicate}
+use lib.ListN.{length, get_or, take, drop, replicate}
 use Rattle.transport.specs.Problem.{Problem, Eligible}
 use Rattle.transport.specs.Greedy.{Pair, State, start, greedy}
 use Rattle.transport.specs.Order.{times}
@@ -23,7 +25,7 @@ use Rattle.transport.proofs.Orders.Lists.{lists_of_order}
 use Rattle.transport.proofs.Finder.Find.{find_is_order}
 use Rattle.transport.proofs.Finder.Same.{Same, size_of_same, find_of_same}
 use Rattle.specification.specs.declared.Placed.{Placed}
-use Rattle.specification.specs.Reply.{gives, refuses, stated_placed}
+use Rattle.specification.specs.Reply.{gives, refuses, outcome_of}
 use Rattle.specification.specs.Costs.{cost_limit}
 use Rattle.specification.specs.Book.{row_word, book_calls, row_at, read_book, problem_of, costs_of}
 use Rattle.specification.specs.Amounts.{lot_amount, call_amount, read_amounts}
@@ -31,19 +33,19 @@ use Rattle.specification.specs.Run.{all_zero, outcome, flow_of}
 use Rattle.specification.specs.Find.{order_or13, found_to_run, find_and_run, find_and_run_flow}
 use Rattle.specification.specs.Reserves.{WithinLots}
 use Rattle.specification.proofs.AmountsFiles.{book_of_amounts}
-use Rattle.specification.proofs.Flows.{length_flow_of}
 use Rattle.rows.proofs.Bits.{bit_below}
 use Rattle.book.proofs.Readable.{Read, counts_are}
 use Rattle.words.proofs.Sets.{bit_none}
 use Rattle.slacks.specs.Slacks.{slack_in}
 use Rattle.slacks.proofs.Filled.{set_remains, stated_same, stated_lifts}
-use Rattle.remaining.specs.States.{Holds, LoadedIn}
+use Rattle.remaining.specs.States.{HoldsState, Loaded}
 use Rattle.remaining.specs.Replies.{reply_of}
 use Rattle.remaining.proofs.Grid.{flow_copied}
 use Rattle.remaining.proofs.Ending.{all_zero_same, shows_end}
 use Rattle.remaining.proofs.Loading.{lots_are, calls_are, can_load, long_enough, lots_fit, loaded_holds}
 use Rattle.words.specs.Lefts.{is_left}
-use Rattle.panel.specs.declared.Remaining.{Remaining}
+use Rattle.remaining.specs.declared.Remaining.{Remaining}
+use Rattle.panel_table.specs.declared.filling.Table.{Table}
 use Rattle.panel.specs.declared.search.Taken.{Taken}
 use Rattle.panel_table.specs.Filling.{slack_at, Within, Filled}
 use Rattle.panel.specs.Search.{problem_in, Left, Searching, Gives, TakenBy, TakenAll}
@@ -74,9 +76,10 @@ pub record Supplied (book amounts flow : List ℕ) (n m : ℕ) : Type 0 where
 pub record Ended (P : Problem) (a b : ℕ → ℕ) (t : Taken) (units : List ℕ) : Type 0 where
   pub order : List Pair
   pub found : find P ≡ some order
-  pub placed_bound : t.placed ≤ 4294967296 * 64
-  pub lifted_bound : t.lifted ≤ 8589934592000000 * 64
-  pub state : Gives P (greedy order a b) t.remaining t.placed t.lifted units
+  pub units_bound : t.sums.units ≤ 4294967296 * 64
+  pub lifted_bound : t.sums.lifted ≤ 8589934592000000 * 64
+  pub no_idle : t.sums.idle ≡ 0
+  pub state : Gives P (greedy order a b) t units
 
 module _ {book amounts flow : List ℕ} {n m : ℕ} (given : Supplied book amounts flow n m) where
   abbrev P : Problem
@@ -94,9 +97,9 @@ module _ {book amounts flow : List ℕ} {n m : ℕ} (given : Supplied book amoun
   pub known : Read book n m
   known = counts_are book (sym reads)
 
-  -- what `remaining_of` asks
-  pub loadable : (n ≤ 8) × (m ≤ 8) × WithinLots (record { lots = n; calls = m }) amounts
-  loadable = (given.few_lots, given.few_calls, (can_load book _ reads amounts given.read).2)
+  -- what `load` asks
+  pub loadable : (8 ≤ 32) × (n ≤ 8) × (m ≤ 8) × WithinLots (record { lots = n; calls = m }) amounts
+  loadable = (omega arith, given.few_lots, given.few_calls, (can_load book _ reads amounts given.read).2)
 
   pub within : Within book
   within = record {
@@ -120,7 +123,13 @@ module _ {book amounts flow : List ℕ} {n m : ℕ} (given : Supplied book amoun
   order_found S e = rw (given.read, long_enough book _ reads flow given.long, e, order_or13) (refl, refl)
 
   -- the table is filled
-  module _ {slacks eligible : List ℕ} (filled : Filled book n slacks eligible) where
+  module _ (table : Table) (at_lots : table.lots ≡ n) (at_calls : table.calls ≡ m) (filled : Filled book n table.slacks table.eligible) where
+    abbrev slacks : List ℕ
+    slacks = table.slacks
+
+    abbrev eligible : List ℕ
+    eligible = table.eligible
+
     abbrev Q : Problem
     Q = problem_in slacks n m
 
@@ -151,51 +160,47 @@ module _ {book amounts flow : List ℕ} {n m : ℕ} (given : Supplied book amoun
             (λ g. absurd (true≢false (sym e ∙ rw (filled.none i (omega arith)) (bit_none j))))
 
     -- what the search asks for
-    module _ {r : Remaining} (loaded : LoadedIn amounts n m r.lots r.calls) where
-      pub searching : {total : ℕ} → total ≡ size P → Searching slacks n m total eligible r
-      searching e = record {
+    module _ {r : Remaining 8} (loaded : Loaded amounts n m r) where
+      pub searching : {total : ℕ} → total ≡ size P → Searching table table.lots table.calls total r
+      searching e = rw (at_lots, at_calls) (record {
         lots_few = given.few_lots;
         calls_few = given.few_calls;
-        capped = filled.entered.capped;
         left = all_left;
         each = each_left;
         total_is = e ∙ size_of_same states;
         fits = lots_fit book _ reads amounts given.read loaded;
-      }
+      })
 
-      held : Holds n m r.lots r.calls (start a b)
+      held : HoldsState n m r (start a b)
       held = rw (lots_are book _ reads, calls_are book _ reads) (loaded_holds book _ reads amounts given.read loaded)
 
       -- what it leaves
-      module _ (t : Taken) (units : List ℕ) (taken : TakenAll slacks n m r t units) where
-        pub refused_13 : t.all ≡ false → (refuses 13 [] ≡ find_and_run book amounts flow) × (flow ≡ find_and_run_flow book amounts flow)
-        refused_13 e = go (find Q) refl taken
+      module _ (answer : prelude.Option Taken) (units : List ℕ) (taken : TakenAll slacks table.lots table.calls r answer units) where
+        pub refused_13 : answer ≡ None → (refuses 13 [] ≡ find_and_run book amounts flow) × (flow ≡ find_and_run_flow book amounts flow)
+        refused_13 e = go (find Q) refl (rw (at_lots, at_calls) at taken)
           where
-            go : (o : Option (List Pair)) → find Q ≡ o → TakenBy o Q r t units
+            go : (o : Option (List Pair)) → find Q ≡ o → TakenBy o Q r answer units
                 → (refuses 13 [] ≡ find_and_run book amounts flow) × (flow ≡ find_and_run_flow book amounts flow)
             go none q by = none_found (found_alike ∙ q)
-            go (some S) q by = absurd (true≢false (sym by.0 ∙ e))
+            go (some S) q (t, is, _, _, _, _) = absurd (let f : None ≡ Some t = sym e ∙ is in cc)
 
-        pub ended : t.all ≡ true → Ended Q a b t units
-        ended e = go (find Q) refl taken
+        pub ended : (t : Taken) → answer ≡ Some t → Ended Q a b t units
+        ended t e = go (find Q) refl (rw (at_lots, at_calls) at taken)
           where
-            go : (o : Option (List Pair)) → find Q ≡ o → TakenBy o Q r t units → Ended Q a b t units
-            go none q by = absurd (true≢false (sym e ∙ by))
-            go (some S) q (_, units_low, lifted_low, all) =
-                record { order = S; found = q; placed_bound = units_low; lifted_bound = lifted_low; state = all a b held }
+            go : (o : Option (List Pair)) → find Q ≡ o → TakenBy o Q r answer units → Ended Q a b t units
+            go none q by = absurd (let f : None ≡ Some t = sym by ∙ e in cc)
+            go (some S) q (u, is, units_low, lifted_low, idle, all) =
+                let same : u ≡ t = (let f : Some u ≡ Some t = sym is ∙ e in cc) in
+                subst (λ (x : Taken). Ended Q a b x units) same
+                (record { order = S; found = q; units_bound = units_low; lifted_bound = lifted_low; no_idle = idle; state = all a b held })
 
     -- the units are copied into the flow, and the reply is by what remains
     module _ {t : Taken} {units : List ℕ} (end : Ended Q a b t units) where
-      pub units_long : length units ≡ 64
-      units_long =
-          let none : length {A = ℕ} (replicate 64 0) ≡ 64 = length-replicate {A = ℕ} 64 0 in
-          ap length end.state.written.flow_is ∙ length_flow_of Q _ (replicate 64 0) (omega (arith, cells_few, none)) ∙ none
-
       pub answered : (reply : Placed) (flow' : List ℕ)
-          → stated_placed reply
-          ≡ gives (reply_of t.remaining.lots t.remaining.calls 0 n m t.placed (pos t.lifted -ℤ pos (cost_limit * t.placed)))
+          → outcome_of reply
+          ≡ reply_of t.remaining.lots t.remaining.calls t.sums.idle n m t.sums.units (pos t.sums.lifted -ℤ pos (cost_limit * t.sums.units))
           → flow' ≡ take (n * m) units ++ drop (n * m) flow
-          → (stated_placed reply ≡ find_and_run book amounts flow) × (flow' ≡ find_and_run_flow book amounts flow)
+          → (gives (outcome_of reply) ≡ find_and_run book amounts flow) × (flow' ≡ find_and_run_flow book amounts flow)
       answered reply flow' e f =
           let S = end.order in
           let s = greedy S a b in
@@ -203,9 +208,9 @@ module _ {book amounts flow : List ℕ} {n m : ℕ} (given : Supplied book amoun
           let listed = lists_of_order (find_is_order Q S end.found) in
           let shown = shows_end (stated_lifts known (slack_at slacks) slack_is) refl refl s t.remaining.lots t.remaining.calls 0
           (eligible_only Q S listed.eligible a b) end.state.written holds.lacks_at
-          (and-true (all_zero n (λ i. get_or t.remaining.lots i 0)) ∙ all_zero_same n _ _ holds.left_at) reply e in
+          (and-true (all_zero n (λ i. get_or t.remaining.lots i 0)) ∙ all_zero_same n _ _ holds.left_at) reply (rw end.no_idle at e) in
           let said = order_found S (found_alike ∙ end.found) in (
-            shown.reply_is ∙ ap gives (sym (outcome_same P Q states.lots states.calls (costs_of book) s)) ∙ said.0,
+            ap gives shown.reply_is ∙ ap gives (sym (outcome_same P Q states.lots states.calls (costs_of book) s)) ∙ said.0,
             f
                 ∙ ap (λ (l : List ℕ). take (n * m) l ++ drop (n * m) flow) shown.flow_is
                 ∙ flow_copied Q s.given (replicate 64 0) flow

@@ -1,20 +1,23 @@
 -- The search of a table of eight by eight: which pair is next, and what the pairs were given once all are taken.
-use Rattle.std.specs.Prelude.{◌≡◌, Bool, true, false, not, ◌&&◌, List, ℕ, ◌*◌, ◌≤◌, ◌<◌, eqb, length, get_or, replicate}
+use Rattle.std.specs.Prelude.{◌≡◌, Bool, true, not, ◌&&◌, List, ℕ, ◌*◌, ◌≤◌, ◌<◌, eqb, length, get_or, replicate, Some, None}
+use Rattle.std.specs.Prelude as prelude
 use Rattle.std.proofs.Math.Option.{Option, some, none}
 use Rattle.transport.specs.Problem.{Problem}
 use Rattle.transport.specs.Greedy.{Pair, State, start, greedy}
 use Rattle.transport.specs.Finder.{size, find}
 use Rattle.specification.specs.Book.{bit}
-use Rattle.slacks.specs.Slacks.{by_slack, Capped}
-use Rattle.words.specs.Lefts.{is_left}
-use Rattle.remaining.specs.States.{Holds, CanGiveOf, GaveOf}
+use Rattle.slacks.specs.Slacks.{by_slack}
+use Rattle.specification.specs.declared.Lot.{Lot}
+use Rattle.specification.specs.declared.Call.{Call}
+use Rattle.words.specs.Lefts.{is_left, TakenFrom}
+use Rattle.remaining.specs.declared.Remaining.{Remaining}
+use Rattle.remaining.specs.States.{HoldsState}
 use Rattle.remaining.specs.Replies.{Written}
-use Rattle.panel.specs.declared.Remaining.{Remaining}
-use Rattle.panel.specs.declared.search.Next.{Next}
-use Rattle.panel.specs.declared.search.Next.TheVariants.{Pair as IsPair, Nothing}
-use Rattle.panel.specs.declared.search.Taken.{Taken}
+use Rattle.panel_table.specs.declared.filling.Table.{Table}
 use Rattle.panel_table.specs.Filling.{cell, slack_at}
-use Rattle.panel_table.specs.Gaps.{LeastCalls}
+use Rattle.panel_table.specs.Gaps.{LeastCalls, Renewed}
+use Rattle.panel.specs.declared.search.Waiting.{Waiting}
+use Rattle.panel.specs.declared.search.Taken.{Taken}
 
 -- the problem that a table states
 abbrev pub problem_in : List ℕ → ℕ → ℕ → Problem
@@ -42,9 +45,9 @@ pub record FirstFree (lefts least : List ℕ) (i j : ℕ) : Type 0 where
   pub no_lower_call : (l : ℕ) → l < j → Frees lefts least 8 i l → ⊥
 
 -- the lowest such pair of n lots, or that there is none
-abbrev pub NextIs : List ℕ → List ℕ → ℕ → Next → Type 0
-NextIs lefts least n Nothing = (i j : ℕ) → i < n → Frees lefts least 8 i j → ⊥
-NextIs lefts least n (IsPair lot call) = FirstFree lefts least lot.0 call.0
+abbrev pub NextIs : List ℕ → List ℕ → ℕ → prelude.Option (Lot × Call) → Type 0
+NextIs lefts least n None = (i j : ℕ) → i < n → Frees lefts least 8 i j → ⊥
+NextIs lefts least n (Some next) = FirstFree lefts least next.0.0 next.1.0
 
 -- what is left is of n lots and m calls, and eligible
 pub record Left (slacks : List ℕ) (n m : ℕ) (lefts : List ℕ) : Type 0 where
@@ -65,34 +68,46 @@ pub record TakenMarks (eligible lefts taken : List ℕ) : Type 0 where
   pub own : (i : ℕ) → i < 8 → OwnCalls taken i
   pub long : length taken ≡ 64
 
+-- no pair is marked, all that are eligible are left, and the words of all n lots are worked out
+pub record AllWait (table : Table) (n : ℕ) (w : Waiting) : Type 0 where
+  pub lefts_are : w.lefts ≡ table.eligible
+  pub marks : TakenMarks table.eligible w.lefts w.taken
+  pub words : AllLeast table.slacks n w.lefts w.least
+
+-- what is asked where the pair (i, j) is taken: it is within eight by eight, as are the calls eligible for lot i and those left to it
+pub record CanTake (table : Table) (w : Waiting) (i j : ℕ) : Type 0 where
+  pub lot_in : i < 8
+  pub call_in : j < 8
+  pub eligible_in : (l : ℕ) → is_left table.eligible i l ≡ true → l < 8
+  pub lefts_in : (l : ℕ) → is_left w.lefts i l ≡ true → l < 8
+  pub marks : TakenMarks table.eligible w.lefts w.taken
+
+-- it is marked and no longer left, and the words of lot i are by the calls that are
+pub record Took (table : Table) (w : Waiting) (i j : ℕ) (w' : Waiting) : Type 0 where
+  pub out : TakenFrom i j w.lefts w'.lefts
+  pub marks : TakenMarks table.eligible w'.lefts w'.taken
+  pub renewed : Renewed table.slacks i (get_or w'.lefts i 0) 8 w.least w'.least
+
 -- what is asked of the caller that has all pairs taken
-pub record Searching (slacks : List ℕ) (n m total : ℕ) (eligible : List ℕ) (remaining : Remaining) : Type 0 where
+pub record Searching (table : Table) (n m total : ℕ) (remaining : Remaining 8) : Type 0 where
   pub lots_few : n ≤ 8
   pub calls_few : m ≤ 8
-  pub capped : Capped slacks
-  pub left : Left slacks n m eligible
-  pub each : (i j : ℕ) → i < n → j < m → is_left eligible i j ≡ not (eqb (slack_at slacks i j) 0)
-  pub total_is : total ≡ size (problem_in slacks n m)
+  pub left : Left table.slacks n m table.eligible
+  pub each : (i j : ℕ) → i < n → j < m → is_left table.eligible i j ≡ not (eqb (slack_at table.slacks i j) 0)
+  pub total_is : total ≡ size (problem_in table.slacks n m)
   pub fits : (i : ℕ) → i < n → get_or remaining.lots i 0 < 4294967296
 
--- what `give` asks, and what it says
-abbrev pub CanGive : Remaining → ℕ → ℕ → ℕ → Type 0
-CanGive r i j u = CanGiveOf 8 r.lots r.calls i j u
-
-abbrev pub Gave : Remaining → ℕ → ℕ → Remaining → Type 0
-Gave r i j r' = GaveOf r.lots r.calls i j r'.lots r'.calls
-
 -- what remains and what was given are those of a state of GREEDY; the units stand as the first entries of a flow do
-pub record Gives (P : Problem) (s : State) (remaining : Remaining) (placed lifted : ℕ) (units : List ℕ) : Type 0 where
-  pub holds : Holds P.lots P.calls remaining.lots remaining.calls s
-  pub written : Written P (replicate 64 0) s.given placed lifted units
+pub record Gives (P : Problem) (s : State) (taken : Taken) (units : List ℕ) : Type 0 where
+  pub holds : HoldsState P.lots P.calls taken.remaining s
+  pub written : Written P (replicate 64 0) s.given taken.sums.units taken.sums.lifted units
 
 -- all pairs were taken where there is an order, and given by it what GREEDY gives
-abbrev pub TakenBy : Option (List Pair) → Problem → Remaining → Taken → List ℕ → Type 0
-TakenBy none P before r units = r.all ≡ false
-TakenBy (some S) P before r units = (r.all ≡ true) × (r.placed ≤ 4294967296 * 64) × (r.lifted ≤ 8589934592000000 * 64)
-    × ((a b : ℕ → ℕ) → Holds P.lots P.calls before.lots before.calls (start a b)
-    → Gives P (greedy S a b) r.remaining r.placed r.lifted units)
+abbrev pub TakenBy : Option (List Pair) → Problem → Remaining 8 → prelude.Option Taken → List ℕ → Type 0
+TakenBy none P before answer units = answer ≡ None
+TakenBy (some S) P before answer units = (taken : Taken) × (answer ≡ Some taken)
+    × (taken.sums.units ≤ 4294967296 * 64) × (taken.sums.lifted ≤ 8589934592000000 * 64) × (taken.sums.idle ≡ 0)
+    × ((a b : ℕ → ℕ) → HoldsState P.lots P.calls before (start a b) → Gives P (greedy S a b) taken units)
 
-abbrev pub TakenAll : List ℕ → ℕ → ℕ → Remaining → Taken → List ℕ → Type 0
-TakenAll slacks n m before r units = TakenBy (find (problem_in slacks n m)) (problem_in slacks n m) before r units
+abbrev pub TakenAll : List ℕ → ℕ → ℕ → Remaining 8 → prelude.Option Taken → List ℕ → Type 0
+TakenAll slacks n m before answer units = TakenBy (find (problem_in slacks n m)) (problem_in slacks n m) before answer units

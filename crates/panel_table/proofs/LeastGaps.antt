@@ -1,6 +1,6 @@
 -- Laws of least gaps. Of the calls passed, the least gap is the highest number that is above none of theirs; the word has those that reach it.
 -- Both stay so when one call more is passed, and once all calls left are passed they are what is wanted.
-use mathlib.Core.Path.{◌≡◌, refl, sym, ◌∙◌, ap, subst, subst⁻¹}
+use mathlib.Core.Path.{◌≡◌, sym, ◌∙◌, ap, subst, subst⁻¹}
 use mathlib.Core.Logic.{by_cases}
 use mathlib.Core.Bool.{Bool, true, false, cond, true≢false}
 use mathlib.Core.List.{List}
@@ -10,14 +10,14 @@ use native.Mathlib.Omega.{arith}
 use borrow.Author.Count.{below_more}
 use borrow.Author.Tests.{lt-ltb, le-ltb, eqb-true, eq-eqb, ne_eqb}
 use lib.Dec.{eqb, ltb}
-use lib.ListN.{length, get_or, set, replicate, length-set, length-replicate, get_or-replicate}
+use lib.ListN.{length, get_or, set, length-set}
 use lib.Seq.{get_or-set_same, get_or-set_other}
 use Rattle.specification.specs.Costs.{cost_top}
 use Rattle.specification.specs.Book.{bit}
 use Rattle.slacks.specs.Slacks.{Capped}
 use Rattle.words.specs.Words.{Below, Without}
 use Rattle.words.proofs.Sets.{bit_none}
-use Rattle.panel_table.specs.Gaps.{gap_out, gap_of, LowRow, WithCall, Joined, LeastCalls, LeastRow, Renewed}
+use Rattle.panel_table.specs.Gaps.{gap_out, gap_of, WithCall, Joined, LeastCalls, LeastRow}
 
 -- the calls passed are those in `left` and not in `rest`: of their gaps `low` is the least, above all gaps where there are none, and the word has
 -- those at which the gap is that
@@ -27,16 +27,6 @@ pub record Low (gap : ℕ → ℕ) (left rest low word : ℕ) : Type 0 where
   pub reached : (l : ℕ) → bit left l ≡ true → bit rest l ≡ false → bit word l ≡ eqb (gap l) low
   pub none : (l : ℕ) → bit rest l ≡ true → bit word l ≡ false
   pub within : low ≤ gap_out
-
--- at first none is passed
-low_first : (gap : ℕ → ℕ) (left : ℕ) → Low gap left left gap_out 0
-low_first gap left = record {
-  below = λ l on off. absurd (true≢false (sym on ∙ off));
-  highest = λ v h f. h;
-  reached = λ l on off. absurd (true≢false (sym on ∙ off));
-  none = λ l on. bit_none l;
-  within = omega arith;
-}
 
 -- one call more is passed
 module _ (gap : ℕ → ℕ) (left rest l after low word low' word' : ℕ) (h : Low gap left rest low word) (on_left : bit left l ≡ true)
@@ -82,16 +72,6 @@ module _ (gap : ℕ → ℕ) (left rest l after low word low' word' : ℕ) (h : 
   }
 
 -- a call joins the words and the least gaps of one lot more
-pub joined_none : (slacks : List ℕ) (i l : ℕ) (low words : List ℕ) → Joined slacks i l 0 low words low words
-joined_none slacks i l low words = record {
-  low_passed = λ k h. absurd (omega arith);
-  passed = λ k h. absurd (omega arith);
-  low_later = λ k h. refl;
-  later = λ k h. refl;
-  low_long = refl;
-  long = refl;
-}
-
 pub joined_more : (slacks : List ℕ) (i l k v u : ℕ) (low words low' words' : List ℕ) → Joined slacks i l k low words low' words'
     → k < length low' → k < length words' → v ≡ min (get_or low' k 0) (gap_of slacks i k l)
     → WithCall (get_or words' k 0) (get_or low' k 0) (gap_of slacks i k l) l u
@@ -120,15 +100,7 @@ pub record Passed (slacks : List ℕ) (i left rest : ℕ) (low words : List ℕ)
   pub low_long : length low ≡ 8
   pub long : length words ≡ 8
 
--- at first none is passed, and then one more at a time
-pub passed_first : (slacks : List ℕ) (i left : ℕ) → Passed slacks i left left (replicate 8 gap_out) (replicate 8 0)
-passed_first slacks i left = record {
-  each = λ k h. rw (get_or-replicate {A = ℕ} 8 k gap_out 0 h, get_or-replicate {A = ℕ} 8 k 0 0 h) (low_first (gap_of slacks i k) left);
-  inside = λ l on. on;
-  low_long = length-replicate {A = ℕ} 8 gap_out;
-  long = length-replicate {A = ℕ} 8 0;
-}
-
+-- one more at a time
 pub passed_next : (slacks : List ℕ) (i left rest l after : ℕ) (low words low' words' : List ℕ) → Passed slacks i left rest low words
     → bit rest l ≡ true → Without rest l after → Joined slacks i l 8 low words low' words' → Passed slacks i left after low' words'
 passed_next slacks i left rest l after low words low' words' h on w r = record {
@@ -140,10 +112,6 @@ passed_next slacks i left rest l after low words low' words' h on w r = record {
   low_long = r.low_long ∙ h.low_long;
   long = r.long ∙ h.long;
 }
-
--- what is asked of the least gaps when a call joins
-pub low_row : (slacks : List ℕ) (i left rest : ℕ) (low words : List ℕ) → Passed slacks i left rest low words → LowRow low
-low_row slacks i left rest low words h = record { within = λ k hk. (h.each k hk).within; long = h.low_long }
 
 -- a call of the word cut at 8
 pub below_eight : (left first l : ℕ) → Below left 8 first → bit first l ≡ true → l < 8
@@ -172,17 +140,3 @@ module _ (slacks : List ℕ) (capped : Capped slacks) (i left first : ℕ) (b : 
   -- once none is to come
   pub row_is_least : (low words : List ℕ) → Passed slacks i first 0 low words → LeastRow slacks left i words
   row_is_least low words h = record { each = λ k hk. least_calls k (get_or low k 0) (get_or words k 0) (h.each k hk) }
-
--- the row of words copied from the front
-pub renewed_none : (slacks : List ℕ) (i left : ℕ) (t : List ℕ) → Renewed slacks i left 0 t t
-renewed_none slacks i left t = record { own = λ k h. absurd (omega arith); others = λ g k d h. refl; long = refl }
-
-pub renewed_more : (slacks : List ℕ) (i left k v : ℕ) (before after : List ℕ) → Renewed slacks i left k before after → LeastCalls slacks left i k v
-    → k < 8 → 8 * i + k < length after → Renewed slacks i left (k + 1) before (set after (8 * i + k) v)
-renewed_more slacks i left k v before after r q hk h = record {
-  own = below_more _ _
-      (λ a ha. subst⁻¹ (LeastCalls slacks left i a) (get_or-set_other after (8 * i + k) (8 * i + a) v 0 (λ z. omega arith)) (r.own a ha))
-      (subst⁻¹ (LeastCalls slacks left i k) (get_or-set_same after (8 * i + k) v 0 h) q);
-  others = λ g a d ha. get_or-set_other after (8 * i + k) (8 * g + a) v 0 (λ z. d (omega arith)) ∙ r.others g a d ha;
-  long = simp length-set r.long;
-}

@@ -2,15 +2,15 @@
 // folder in which it is run.
 #![tactic(auto)]
 
-ghost use Rattle.std.specs.Prelude.{◌≡◌, ◌≤◌, length, take};
+ghost use Rattle.std.specs.Prelude.{◌≤◌, length};
 
 use std::rt::Files;
 use std::{fs, io};
 
-// Reads until the buffer is full, the input ends or a read fails, and returns how many bytes it put at the buffer's start.
-fn read_full(input: &mut impl io::Read, buffer: &mut [u8]) -> usize
-    ensures fits { result ≤ length buffer.new }
-    ensures length_read { result ≡ length (take result buffer.new) }
+// Reads until the buffer is full, the input ends or a read fails, and returns what it read: `read_exact` refuses an input that is shorter, and
+// `read_to_end` asks for a heap.
+fn read_full<'a>(input: &mut impl io::Read, buffer: &'a mut [u8]) -> &'a [u8]
+    ensures { length result.now ≤ length buffer.old }
 {
     let mut length = 0;
     while length < buffer.len() {
@@ -19,17 +19,16 @@ fn read_full(input: &mut impl io::Read, buffer: &mut [u8]) -> usize
             Ok(more) => length += more,
         }
     }
-    length
+    &buffer[..length]
 }
 
 // Reads a file until the buffer is full or the file ends; of one that is absent or cannot be read nothing.
-fn read_file(rt: &impl Files, path: &str, buffer: &mut [u8]) -> usize
-    ensures fits { result ≤ length buffer.new }
-    ensures length_read { result ≡ length (take result buffer.new) }
+fn read_file<'a>(rt: &impl Files, path: &str, buffer: &'a mut [u8]) -> &'a [u8]
+    ensures { length result.now ≤ length buffer.old }
 {
     match fs::open(rt, path) {
         Ok(mut file) => read_full(&mut file, buffer),
-        Err(_) => 0,
+        Err(_) => &buffer[..0],
     }
 }
 
@@ -37,10 +36,8 @@ fn read_file(rt: &impl Files, path: &str, buffer: &mut [u8]) -> usize
 fn main(rt: HostRuntime) {
     let mut book = [0u8; placer::BOOK_MOST];
     let mut amounts = [0u8; placer::AMOUNTS_MOST];
-    let book_length = read_file(&rt, "book.clb", &mut book);
-    let amounts_length = read_file(&rt, "amounts.cla", &mut amounts);
-    let text = placer::printed_text(&book[..book_length], &amounts[..amounts_length]);
-    let bytes = text.bytes;
-    let length = text.length;
-    let _ = rt.write_all(&bytes[..length]);
+    let book = read_file(&rt, "book.clb", &mut book);
+    let amounts = read_file(&rt, "amounts.cla", &mut amounts);
+    let text = placer::printed_text(book, amounts);
+    let _ = rt.write_all(text.as_bytes());
 }

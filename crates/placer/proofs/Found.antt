@@ -2,7 +2,9 @@
 -- array's front is the file of the order found for the problem that was searched.
 use mathlib.Core.Path.{◌≡◌, refl, sym, ◌∙◌, ap}
 use mathlib.Core.List.{List}
-use mathlib.Core.Option.{Option, some, none}
+use Rattle.std.proofs.Common.{Option, Some, None}
+use mathlib.Core.Option.{some, none}
+use mathlib.Core.Option as math
 use Prim.Native.Nat.{ℕ, ◌+◌, ◌*◌}
 use native.Mathlib.Omega.{arith}
 use lib.ListN.{length, take, drop}
@@ -15,8 +17,6 @@ use Rattle.transport.proofs.Finder.Find.{find_is_order}
 use Rattle.specification.specs.OrderFile.{order_file}
 use Rattle.specification.proofs.OrderFiles.{count_back, order_back, order_file_taken}
 use Rattle.finder.specs.Writing.{Orders}
-use Rattle.slacks.specs.declared.Search.{Search}
-use Rattle.slacks.specs.declared.Search.TheVariants.{Found, Nothing}
 use Rattle.run.specs.Run.{pairs_of}
 
 -- the first bytes of the array are the file of the order found for E, which has `count` pairs
@@ -27,18 +27,18 @@ pub record IsFile (E : Problem) (after : List ℕ) (count : ℕ) : Type 0 where
   pub file_is : take (7 + 2 * count) after ≡ order_file order
 
 -- the search has answered
-module _ (E : Problem) (buffer after : List ℕ) (r : Search) (answer : Orders (find E) r buffer after) where
-  pub none_found : r ≡ Nothing → find E ≡ none
+module _ (E : Problem) (buffer after : List ℕ) (r : Option ℕ) (answer : Orders (find E) r buffer after) where
+  pub none_found : r ≡ None → find E ≡ none
   none_found q = by_answer (find E) refl answer
     where
-      by_answer : (o : Option (List Pair)) → find E ≡ o → Orders o r buffer after → find E ≡ none
+      by_answer : (o : math.Option (List Pair)) → find E ≡ o → Orders o r buffer after → find E ≡ none
       by_answer none f w = f
       by_answer (some S) f w = let z : ◌≡◌ {A = ℕ} 0 1 = cc in absurd (omega arith)
 
-  pub file_found : (count : ℕ) → r ≡ Found count → IsFile E after count
+  pub file_found : (count : ℕ) → r ≡ Some count → IsFile E after count
   file_found count q = by_answer (find E) refl answer
     where
-      by_answer : (o : Option (List Pair)) → find E ≡ o → Orders o r buffer after → IsFile E after count
+      by_answer : (o : math.Option (List Pair)) → find E ≡ o → Orders o r buffer after → IsFile E after count
       by_answer none f w = let z : ◌≡◌ {A = ℕ} 0 1 = cc in absurd (omega arith)
       by_answer (some S) f w =
           let is : count ≡ length S = cc in

@@ -1,5 +1,6 @@
 -- Finding and running past the refusals of the files: each way out is what the definition says, and what the search leaves is what a run
 -- asks for. And both entry points are that, after their own refusals.
+use Rattle.std.specs.Prelude.{Ok}
 use mathlib.Core.Path.{◌≡◌, refl, sym, ◌∙◌, ap}
 use mathlib.Core.Logic.{◌⊎◌, inl, inr, by_cases}
 use mathlib.Core.Bool.{Bool, true, false, ◌||◌}
@@ -12,7 +13,6 @@ use native.Mathlib.Omega.{arith}
 use borrow.Author.Tests.{lt-ltb, le-ltb, ne_eqb}
 use lib.Dec.{nltb→le}
 use lib.ListN.{length, take}
-use lib.Seq.{length-take-le}
 use Rattle.transport.specs.Problem.{Problem, Eligible}
 use Rattle.transport.specs.Greedy.{Pair, start, greedy}
 use Rattle.transport.specs.Order.{times}
@@ -22,7 +22,7 @@ use Rattle.transport.proofs.Orders.Lists.{Lists, lists_of_order}
 use Rattle.transport.proofs.Greedy.Idle.{pair_real}
 use Rattle.transport.proofs.Finder.Find.{find_is_order}
 use Rattle.specification.specs.declared.Placed.{Placed}
-use Rattle.specification.specs.Reply.{Reply, gives, refuses, ◌>>=◌, afterwards, Size, stated_placed}
+use Rattle.specification.specs.Reply.{Reply, gives, refuses, ◌>>=◌, afterwards, Size, outcome_of}
 use Rattle.specification.specs.Costs.{cost_base}
 use Rattle.specification.specs.Book.{book_version, book_lots, book_calls, read_head, read_book, problem_of, costs_of}
 use Rattle.specification.specs.Amounts.{lot_amount, call_amount, read_amounts}
@@ -75,12 +75,12 @@ module _ (book : List ℕ) (E : Problem) (a b : ℕ → ℕ) (flow : List ℕ) w
 
     places_run : (S : List Pair) → find E ≡ some S → (reply : Placed) (flow' : List ℕ)
         → ShowsEnd (problem_of book) (costs_of book) (real_part (problem_of book) (greedy S a b)) flow reply flow'
-        → (stated_placed reply ≡ placed_by book E a b flow) × (flow' ≡ flow_by book E a b flow)
-    places_run S found reply flow' ran = rw (long, found, order_or13) (ran.reply_is, ran.flow_is)
+        → (gives (outcome_of reply) ≡ placed_by book E a b flow) × (flow' ≡ flow_by book E a b flow)
+    places_run S found reply flow' ran = rw (long, found, order_or13) (ap gives ran.reply_is, ran.flow_is)
 
 -- the search has left a file
-module _ (book : List ℕ) (n m : ℕ) (idle : Bool) (r : Remaining) (given : Supplied book n m idle r) (after : List ℕ) (count : ℕ)
-    (file : IsFile (searched idle book) after count) where
+module _ (book : List ℕ) (n m : ℕ) (reads : read_book book ≡ gives (record { lots = n; calls = m })) (idle : Bool) (r : Remaining 32)
+    (given : Supplied n m idle r) (after : List ℕ) (count : ℕ) (file : IsFile (searched idle book) after count) where
   abbrev P : Problem
   P = problem_of book
 
@@ -88,13 +88,13 @@ module _ (book : List ℕ) (n m : ℕ) (idle : Bool) (r : Remaining) (given : Su
   S = pairs_of (take (7 + 2 * count) after) count
 
   sized : (n ≡ P.lots) × (m ≡ P.calls)
-  sized = (lots_are book _ given.reads, calls_are book _ given.reads)
+  sized = (lots_are book _ reads, calls_are book _ reads)
 
   listed : Lists (searched idle book) S
   listed = rw (pairs_are _ after count file) (lists_of_order (is_order _ after count file))
 
   pub few : count ≤ 1024
-  few = omega (arith, as_many _ after count file, searched_within (counts_are book (sym given.reads)) idle given.room)
+  few = omega (arith, as_many _ after count file, searched_within (counts_are book (sym reads)) idle given.room)
 
   -- its pairs are eligible in the book, or those of the idle call
   in_place : (i j : ℕ) → 0 < times i j S → Eligible P i j ⊎ ((i < n) × (j ≡ m) × (m < 32))
@@ -114,21 +114,13 @@ module _ (book : List ℕ) (n m : ℕ) (idle : Bool) (r : Remaining) (given : Su
       own true = omega arith
 
   module _ (flow : List ℕ) (long : n * m ≤ length flow) where
-    pub run_accepted : 7 + 2 * count ≤ length after → Accepted (take (7 + 2 * count) after) count n m r book (length flow)
-    run_accepted whole = record {
-      reads = given.reads;
-      order_long = omega (arith, length-take-le (7 + 2 * count) after whole);
-      few_pairs = few;
-      eligible = in_place;
-      once = listed.once;
-      fits = given.fits;
-      flow_long = long;
-    }
+    pub run_accepted : Accepted (take (7 + 2 * count) after) count n m r book (length flow)
+    run_accepted = record { few_pairs = few; eligible = in_place; once = listed.once; fits = given.fits; flow_long = long }
 
-    pub run_places : (reply : Placed) (flow' : List ℕ) → AsGreedy S r P (costs_of book) flow reply flow' → Places idle book r flow reply flow'
+    pub run_places : (reply : Placed) (flow' : List ℕ) → AsGreedy S r P (costs_of book) flow reply flow' → Places idle book r flow (Ok reply) flow'
     run_places reply flow' as_greedy a b holds =
         let ran = rw (pairs_are _ after count file) at (as_greedy (searched idle book).calls a b spans holds) in
-        places_run book (searched idle book) a b flow (long_enough book _ given.reads flow long) file.order file.found reply flow' ran
+        places_run book (searched idle book) a b flow (long_enough book _ reads flow long) file.order file.found reply flow' ran
 
 -- the entry points, once the amounts are read
 module _ (book amounts flow : List ℕ) (size : Size) (read : read_amounts book amounts ≡ gives size) where
@@ -173,7 +165,7 @@ module _ (book amounts flow : List ℕ) (size : Size) (read : read_amounts book 
   idle_is enough room = rw (read, le-ltb (lots_total book amounts) (calls_total book amounts) enough, ne_eqb (book_calls book) 32 room) (refl, refl)
 
   -- the arrays with the idle call hold the amounts of the enlarged book
-  pub idle_held : read_book book ≡ gives size → {r r' : Remaining} {u : ℕ} → Loaded amounts size.lots size.calls r
+  pub idle_held : read_book book ≡ gives size → {r r' : Remaining 32} {u : ℕ} → Loaded amounts size.lots size.calls r
       → OneCallMore r size.calls u r' → u ≡ idle_amount (problem_of book) a b
       → HoldsState (problem_of book).lots (enlarged book).calls r' (start a (idle_amounts (problem_of book) a b))
   idle_held reads loaded more is =

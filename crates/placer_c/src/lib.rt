@@ -30,7 +30,7 @@ pub struct Stretch {
 pub extern "C" fn placer_read_book(book: &[u8]) -> Answer
     ensures { result ≡ answer_of counts (read_book book.now) }
 {
-    answers::counts(book::read_book(book))
+    Answer::from(book::read_book(book))
 }
 
 // The costs of a lot, four bytes each, as a stretch of the book; 0, 0 where it is empty.
@@ -39,14 +39,14 @@ pub extern "C" fn placer_lot_costs(book: &[u8], lot: usize) -> Stretch
     ensures value { result ≡ stretch_of book.now lot }
     ensures book_value { take result.len (drop result.start book.now) ≡ lot_costs book.now lot }
 {
-    let costs = book::lot_costs(book, Lot(lot));
+    let costs = book::inner::costs_range(book, Lot(lot));
     let len = costs.len();
     if len == 0 {
-        return Stretch { start: 0, len: 0 };
+        return Stretch { start: 0, len };
     }
     Stretch {
-        start: book::inner::row_at(book, Lot(lot)) + 4,
-        len: len,
+        start: costs.start,
+        len,
     }
 }
 
@@ -55,7 +55,7 @@ pub extern "C" fn placer_lot_costs(book: &[u8], lot: usize) -> Stretch
 pub extern "C" fn placer_pair_cost(book: &[u8], lot: usize, call: usize) -> Answer
     ensures { result ≡ answer_of cost_of (pair_cost book.now lot call) }
 {
-    answers::cost(book::pair_cost(book, Lot(lot), Call(call)))
+    Answer::from(book::pair_cost(book, Lot(lot), Call(call)))
 }
 
 // Reads amounts with their book: n and m.
@@ -63,7 +63,7 @@ pub extern "C" fn placer_pair_cost(book: &[u8], lot: usize, call: usize) -> Answ
 pub extern "C" fn placer_read_amounts(book: &[u8], amounts: &[u8]) -> Answer
     ensures { result ≡ answer_of counts (read_amounts book.now amounts.now) }
 {
-    answers::counts(amounts::read_amounts(book, amounts))
+    Answer::from(amounts::read_amounts(book, amounts))
 }
 
 // Checks an order: its count of pairs.
@@ -71,7 +71,7 @@ pub extern "C" fn placer_read_amounts(book: &[u8], amounts: &[u8]) -> Answer
 pub extern "C" fn placer_check_order(book: &[u8], order: &[u8]) -> Answer
     ensures { result ≡ answer_of number (check_order book.now order.now) }
 {
-    answers::checked(order::check_order(book, order))
+    Answer::from(order::check_order(book, order))
 }
 
 // Runs an order that passes the check: units and cost, and the units of each pair in the flow.
@@ -85,7 +85,7 @@ pub extern "C" fn placer_run_order(
     ensures value { result ≡ answer_of placed (run_order book.now order.now amounts.now flow.old) }
     ensures flow_after { flow.new ≡ run_flow book.now order.now amounts.now flow.old }
 {
-    answers::placed(run::run_order(book, order, amounts, flow))
+    Answer::from(run::run_order(book, order, amounts, flow))
 }
 
 // Finds an order and writes its file: the length of the file.
@@ -94,7 +94,7 @@ pub extern "C" fn placer_find_order(book: &[u8], order: &mut [u8]) -> Answer
     ensures value { result ≡ answer_of number (find_order book.now order.old) }
     ensures order_after { order.new ≡ find_buffer book.now order.old }
 {
-    answers::found(finder::find_order(book, order))
+    Answer::from(finder::find_order(book, order))
 }
 
 // Finds an order and runs it: units and cost, and the units of each pair in the flow.
@@ -103,7 +103,7 @@ pub extern "C" fn placer_find_and_run(book: &[u8], amounts: &[u8], flow: &mut [u
     ensures value { result ≡ answer_of placed (find_and_run book.now amounts.now flow.old) }
     ensures flow_after { flow.new ≡ find_and_run_flow book.now amounts.now flow.old }
 {
-    answers::placed(placer::find_and_run(book, amounts, flow))
+    Answer::from(placer::find_and_run(book, amounts, flow))
 }
 
 // The same with an idle call, whose amount is what the lots have more than the calls: units and cost of the book's own calls, and their flow.
@@ -112,7 +112,7 @@ pub extern "C" fn placer_find_and_run_idle(book: &[u8], amounts: &[u8], flow: &m
     ensures value { result ≡ answer_of placed (find_and_run_idle book.now amounts.now flow.old) }
     ensures flow_after { flow.new ≡ find_and_run_idle_flow book.now amounts.now flow.old }
 {
-    answers::placed(placer::find_and_run_idle(book, amounts, flow))
+    Answer::from(placer::find_and_run_idle(book, amounts, flow))
 }
 
 // The ticket panel's: at most 8 lots and 8 calls, and within these it answers and writes as `placer_find_and_run` does.
@@ -121,7 +121,7 @@ pub extern "C" fn placer_find_and_run_panel(book: &[u8], amounts: &[u8], flow: &
     ensures value { result ≡ answer_of placed (find_and_run_panel book.now amounts.now flow.old) }
     ensures flow_after { flow.new ≡ find_and_run_panel_flow book.now amounts.now flow.old }
 {
-    answers::placed(placer::find_and_run_panel(book, amounts, flow))
+    Answer::from(placer::find_and_run_panel(book, amounts, flow))
 }
 
 // The version of the library, that of include/placer.h: major, minor and patch in one number.

@@ -1,41 +1,32 @@
 -- The specification's scan in turn, as a loop makes it: one number at a time from the front.
-use mathlib.Core.Path.{◌≡◌, refl, sym, ◌∙◌, ap}
+use mathlib.Core.Path.{◌≡◌, refl}
 use mathlib.Core.Bool.{and-true, and-false}
 use mathlib.Core.List.{List}
 use Prim.Native.Nat.{ℕ, zero, suc, ◌+◌, ◌-◌, ◌≤◌, ◌<◌}
-use native.Mathlib.Nat.{sub-zero, sub_self}
+use native.Mathlib.Nat.{sub_self}
 use native.Mathlib.Numerals.{add-one}
 use native.Mathlib.Omega.{arith}
 use borrow.Author.Tests.{lt-ltb, le-ltb}
 use lib.Dec.{ltb}
-use Rattle.specification.specs.Reply.{Reply, gives, ◌>>=◌}
+use Rattle.specification.specs.Reply.{Reply, gives, refused, ◌>>=◌}
 use Rattle.specification.specs.Check.{in_turn}
 use Rattle.transport.specs.Problem.{Problem}
 use Rattle.transport.specs.Greedy.{Pair}
 use Rattle.specification.specs.declared.Refusal.{Refusal}
-use Rattle.files.specs.declared.Step.{Step}
-use Rattle.files.specs.declared.Step.TheVariants.{Passes, Refused}
-use Rattle.files.specs.Files.{stated_step}
-use Rattle.quadruples.proofs.Replies.{goes_on, stops}
 use Rattle.book.specs.Table.{entry}
 use Rattle.quadruples.specs.Scan.{call_at, quadruple_at}
 
 module _ (f : ℕ → Reply (Unit {0})) where
-  pub turn_begins : (m : ℕ) → in_turn m 0 f ≡ in_turn (m - 0) 0 f
-  turn_begins m = rw (sub-zero m)
-
   turn_step : (m l : ℕ) → l < m → in_turn (m - l) l f ≡ (f l >>= λ _. in_turn (m - (l + 1)) (l + 1) f)
   unfolding in_turn
   turn_step m l h = let e : m - l ≡ suc (m - (l + 1)) = omega arith in rw (e, in_turn, add-one l)
 
-  -- an answer on l: the scan goes on, or it stops
-  pub turn_goes_on : (r : Step) (m l : ℕ) → l < m → stated_step r ≡ f l → r ≡ Passes
-      → in_turn (m - l) l f ≡ in_turn (m - (l + 1)) (l + 1) f
-  turn_goes_on r m l h says e = rw (turn_step m l h, ← says) (goes_on r _ e)
+  -- nothing is refused on l and the scan goes on, or it stops
+  pub turn_goes_on : (m l : ℕ) → l < m → f l ≡ gives tt → in_turn (m - l) l f ≡ in_turn (m - (l + 1)) (l + 1) f
+  turn_goes_on m l h e = rw (turn_step m l h, e) refl
 
-  pub turn_stops : (r : Step) (x : Refusal) (m l : ℕ) → l < m → stated_step r ≡ f l → r ≡ Refused x
-      → in_turn (m - l) l f ≡ stated_step r
-  turn_stops r x m l h says e = rw (turn_step m l h, ← says) (stops r x _ e ∙ sym (ap stated_step e))
+  pub turn_stops : (x : Refusal) (m l : ℕ) → l < m → f l ≡ refused x → in_turn (m - l) l f ≡ refused x
+  turn_stops x m l h e = rw (turn_step m l h, e) refl
 
   pub turn_ends : (m : ℕ) → in_turn (m - m) m f ≡ gives tt
   unfolding in_turn

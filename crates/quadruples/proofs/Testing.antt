@@ -1,6 +1,6 @@
--- The test of one quadruple by the table of offsets: where three of its pairs are eligible, the book's own costs stand at the offsets, all with one number added, and
--- an offset of 0 says that (k, l) is not eligible. So each answer is the specification's.
-use mathlib.Core.Path.{◌≡◌, sym}
+-- The test of one quadruple by the table of offsets: where three of its pairs are eligible, the book's own costs stand at the offsets, all
+-- with one number added, and an offset of 0 says that (k, l) is not eligible. So each answer is the specification's.
+use mathlib.Core.Path.{◌≡◌, sym, ◌∙◌}
 use mathlib.Core.List.{List, [], ◌∷◌}
 use Prim.Native.Nat.{ℕ, ◌+◌, ◌≤◌, ◌<◌}
 use native.Mathlib.Omega.{arith}
@@ -10,21 +10,12 @@ use Rattle.transport.proofs.Laws.Tests.{T_true}
 use Rattle.specification.specs.Reply.{gives, refuses}
 use Rattle.specification.specs.Book.{problem_of}
 use Rattle.specification.specs.Check.{check_quadruple}
-use Rattle.specification.specs.Demands.{Readable}
 use Rattle.specification.specs.Requests.{ThreeEligible}
 use Rattle.specification.proofs.Quadruples.{quadruple_not_eligible, quadruple_too_high, quadruple_holds}
 use Rattle.book.specs.Pairs.{offset_table}
-use Rattle.book.specs.Table.{entry, raised_at, Tabled}
+use Rattle.book.specs.Table.{entry, raised_at, CanRead}
 use Rattle.book.proofs.Readable.{Read, counts_are}
 use Rattle.book.proofs.Tables.{lot_few, call_few, lacking, cost_at, eligible_at, not_eligible_at, offsets_tabled}
-
--- the lots and calls of a readable book are of the table's
-module _ (book : List ℕ) (readable : Readable book) where
-  pub lot_in : (i : ℕ) → i < (problem_of book).lots → i < 32
-  lot_in = lot_few book (counts_are book (sym readable.1))
-
-  pub call_in : (j : ℕ) → j < (problem_of book).calls → j < 32
-  call_in = call_few book (counts_are book (sym readable.1))
 
 module _ {book table : List ℕ} {i j k l : ℕ} (three : ThreeEligible book i j k l) (offsets : table ≡ offset_table book) where
   abbrev P : Problem
@@ -35,14 +26,15 @@ module _ {book table : List ℕ} {i j k l : ℕ} (three : ThreeEligible book i j
 
   pub all_in : (i < 32) × (j < 32) × (k < 32) × (l < 32)
   all_in = (
-    lot_in book three.readable i three.own.0,
-    call_in book three.readable j three.own.1,
-    lot_in book three.readable k three.by_call.0,
-    call_in book three.readable l three.by_lot.1,
+    lot_few book read i three.own.0,
+    call_few book read j three.own.1,
+    lot_few book read k three.by_call.0,
+    call_few book read l three.by_lot.1,
   )
 
-  pub tabled : Tabled book table
-  tabled = rw offsets (offsets_tabled book read)
+  -- any pair of lots and calls of the table can be looked up
+  pub can_read : (a b : ℕ) → a < 32 → b < 32 → CanRead book table a b
+  can_read a b lot_in call_in = record { tabled = rw offsets (offsets_tabled book read); lot_in = lot_in; call_in = call_in }
 
   -- an offset of 0
   pub told_not_eligible : entry table k l ≡ 0 → refuses 11 (i ∷ j ∷ k ∷ l ∷ []) ≡ check_quadruple P (pair i j) k l
@@ -50,9 +42,9 @@ module _ {book table : List ℕ} {i j k l : ℕ} (three : ThreeEligible book i j
       (not_eligible_at book read k l all_in.2 all_in.3 (rw offsets at none))
 
   -- and another: all four pairs are eligible
-  module _ (some : entry table k l ≡ 0 → ⊥) where
+  module _ {offset : ℕ} (is : offset ≡ entry table k l) (some : offset ≡ 0 → ⊥) where
     other : Eligible P k l
-    other = eligible_at book read k l all_in.2 all_in.3 (λ e. some (rw offsets e))
+    other = eligible_at book read k l all_in.2 all_in.3 (λ e. some (is ∙ rw offsets e))
 
     abbrev cost : ℕ → ℕ → ℕ
     cost a b = raised_at book (entry table a b)

@@ -1,2 +1,2 @@
 -- The quadruples of a pair.
-pub mod Scan  -- what their scan asks, and which of them it tests
+pub mod Scan  -- which of them its scan tests

@@ -12,7 +12,7 @@ ghost use Rattle.specification.specs.Check.{check_quadruple};
 ghost use Rattle.specification.specs.Requests.{ThreeEligible};
 ghost use Rattle.book.specs.Pairs.{offset_table};
 
-use book::inner::{cost_of, entry_of};
+use book::inner::{cost_of, entry_at};
 use specification::{Call, Lot, Quadruple};
 
 // Of three eligible pairs (i, j), (i, l) and (k, j) of a readable book: whether (k, l) is eligible and the cost sums are as the check asks.
@@ -29,13 +29,13 @@ pub fn test_quadruple(
     ensures { stated_quadruple i.0 j.0 k.0 l.0 result
         ≡ check_quadruple (problem_of book.now) (pair i.0 j.0) k.0 l.0 }
 {
-    if entry_of(offsets, k, l) == 0 {
+    if entry_at(offsets, k, l) == 0 {
         return Quadruple::NotEligible;
     }
-    let own = cost_of(book, offsets, i, j) as u64;
-    let other = cost_of(book, offsets, k, l) as u64;
-    let by_lot = cost_of(book, offsets, i, l) as u64;
-    let by_call = cost_of(book, offsets, k, j) as u64;
+    let own = u64::from(cost_of(book, offsets, i, j));
+    let other = u64::from(cost_of(book, offsets, k, l));
+    let by_lot = u64::from(cost_of(book, offsets, i, l));
+    let by_call = u64::from(cost_of(book, offsets, k, j));
     if by_lot + by_call < own + other {
         return Quadruple::TooHigh;
     }

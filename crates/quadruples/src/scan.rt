@@ -1,101 +1,77 @@
 // The first quadruple of a pair that fails: 11 and 12.
-ghost use Rattle.std.specs.Prelude.{◌≡◌, ◌<◌};
+ghost use Rattle.std.specs.Prelude.{◌≡◌, ℕ, ◌<◌};
 ghost use Rattle.transport.specs.Problem.{Eligible};
 ghost use Rattle.transport.specs.Greedy.{pair};
-ghost use Rattle.specification.specs.Reply.{stated_quadruple};
+ghost use Rattle.specification.specs.Reply.{told};
 ghost use Rattle.specification.specs.Book.{problem_of};
 ghost use Rattle.specification.specs.Check.{in_turn};
-ghost use Rattle.files.specs.Files.{stated_step};
-ghost use Rattle.quadruples.specs.Scan.{CanScan, call_at, quadruple_at};
+ghost use Rattle.book.specs.Pairs.{offset_table};
+ghost use Rattle.book.specs.Table.{entry};
+ghost use Rattle.quadruples.specs.Scan.{call_at, quadruple_at};
 
 use super::test_quadruple;
-use files::Step;
+use book::Book;
+use book::inner::entry_at;
 use specification::{Call, Lot, Quadruple, Refusal};
 
-// The refusal that a quadruple comes to.
-fn named(q: Quadruple, i: Lot, j: Call, k: Lot, l: Call) -> Step
-    ensures { stated_step result ≡ stated_quadruple i.0 j.0 k.0 l.0 q }
-{
-    match q {
-        Quadruple::Holds => Step::Passes,
-        Quadruple::NotEligible => Step::Refused(Refusal::CrossNotEligible(i, j, k, l)),
-        Quadruple::TooHigh => Step::Refused(Refusal::CrossSumTooHigh(i, j, k, l)),
-    }
+// An eligible pair, which stands at a place, and what its scan reads: only eligible pairs have a place.
+#[derive(Clone, Copy)]
+pub struct Scan<'a> {
+    pub book: &'a Book<'a>,
+    pub offsets: &'a [u16; 1024],
+    pub places: &'a [u16; 1024],
+    pub place: usize,
+    pub lot: Lot,
+    pub call: Call,
+    ghost tabled: { offsets.now ≡ offset_table book.now.bytes.now },
+    ghost placed: { (k l : ℕ) → k < 32 → l < 32 → 0 < entry places.now k l → Eligible (problem_of book.now.bytes.now) k l },
+    ghost few_pairs: { place < 65535 },
+    ghost own: { Eligible (problem_of book.now.bytes.now) lot.0 call.0 },
 }
 
-// The quadruple of the pair (i, j), which stands at a place, with lot k and call l, tested where (i, l) stands later.
-fn call_failure(
-    book: &[u8],
-    offsets: &[u16; 1024],
-    places: &[u16; 1024],
-    place: usize,
-    i: Lot,
-    j: Call,
-    k: Lot,
-    l: Call,
-) -> Step
-    requires { CanScan book.now offsets.now places.now place i.0 j.0
-        × Eligible (problem_of book.now) k.0 j.0 × (l.0 < (problem_of book.now).calls) }
-    ensures { stated_step result ≡ call_at (problem_of book.now) places.now place (pair i.0 j.0) k.0 l.0 }
-{
-    if book::inner::entry_of(places, i, l) <= place + 1 {
-        return Step::Passes;
+impl<'a> Scan<'a> {
+    // The quadruple with lot k and call l, tested where (i, l) stands later.
+    fn call_failure(&self, k: Lot, l: Call) -> Result<(), Refusal>
+        requires lot_in { Eligible (problem_of self.now.book.now.bytes.now) k.0 self.now.call.0 }
+        requires call_in { l.0 < self.now.book.now.counts.calls }
+        ensures { told result
+            ≡ call_at (problem_of self.now.book.now.bytes.now) self.now.places.now self.now.place (pair self.now.lot.0 self.now.call.0) k.0 l.0 }
+    {
+        let i = self.lot;
+        let j = self.call;
+        if usize::from(entry_at(self.places, i, l)) <= self.place + 1 {
+            return Ok(());
+        }
+        match test_quadruple(self.book.bytes, self.offsets, i, j, k, l) {
+            Quadruple::Holds => Ok(()),
+            Quadruple::NotEligible => Err(Refusal::CrossNotEligible(i, j, k, l)),
+            Quadruple::TooHigh => Err(Refusal::CrossSumTooHigh(i, j, k, l)),
+        }
     }
-    named(test_quadruple(book, offsets, i, j, k, l), i, j, k, l)
-}
 
-// The quadruples with lot k, by call rising; where (k, j) does not stand later none is tested.
-fn lot_failure(
-    book: &[u8],
-    offsets: &[u16; 1024],
-    places: &[u16; 1024],
-    m: usize,
-    place: usize,
-    i: Lot,
-    j: Call,
-    k: Lot,
-) -> Step
-    requires { CanScan book.now offsets.now places.now place i.0 j.0
-        × (k.0 < (problem_of book.now).lots) × (m ≡ (problem_of book.now).calls) }
-    ensures { stated_step result ≡ in_turn m 0 (quadruple_at (problem_of book.now) places.now place (pair i.0 j.0) k.0) }
-{
-    if book::inner::entry_of(places, k, j) <= place + 1 {
-        return Step::Passes;
+    // The quadruples with lot k, by call rising; where (k, j) does not stand later none is tested.
+    fn lot_failure(&self, k: Lot) -> Result<(), Refusal>
+        requires { k.0 < self.now.book.now.counts.lots }
+        ensures { told result ≡ in_turn self.now.book.now.counts.calls 0
+            (quadruple_at (problem_of self.now.book.now.bytes.now) self.now.places.now self.now.place (pair self.now.lot.0 self.now.call.0) k.0) }
+    {
+        if usize::from(entry_at(self.places, k, self.call)) <= self.place + 1 {
+            return Ok(());
+        }
+        for l in 0..self.book.counts.calls {
+            self.call_failure(k, Call(l))?;
+        }
+        Ok(())
     }
-    let mut l: usize = 0;
-    while l < m {
-        let found = call_failure(book, offsets, places, place, i, j, k, Call(l));
-        let Step::Passes = found else {
-            return found;
-        };
-        l += 1;
-    }
-    Step::Passes
-}
 
-// The quadruples of the pair (i, j), which stands at a place, by lot rising.
-pub fn pair_failure(
-    book: &[u8],
-    offsets: &[u16; 1024],
-    places: &[u16; 1024],
-    n: usize,
-    m: usize,
-    place: usize,
-    i: Lot,
-    j: Call,
-) -> Step
-    requires { CanScan book.now offsets.now places.now place i.0 j.0
-        × (n ≡ (problem_of book.now).lots) × (m ≡ (problem_of book.now).calls) }
-    ensures { stated_step result ≡ in_turn n 0 (λ k. in_turn m 0 (quadruple_at (problem_of book.now) places.now place
-        (pair i.0 j.0) k)) }
-{
-    let mut k: usize = 0;
-    while k < n {
-        let found = lot_failure(book, offsets, places, m, place, i, j, Lot(k));
-        let Step::Passes = found else {
-            return found;
-        };
-        k += 1;
+    // The quadruples of the pair, by lot rising.
+    pub fn pair_failure(&self) -> Result<(), Refusal>
+        ensures { told result ≡ in_turn self.now.book.now.counts.lots 0 (λ k. in_turn self.now.book.now.counts.calls 0
+            (quadruple_at (problem_of self.now.book.now.bytes.now) self.now.places.now self.now.place (pair self.now.lot.0 self.now.call.0) k)) }
+    {
+        for k in 0..self.book.counts.lots {
+            self.lot_failure(Lot(k))?;
+        }
+        Ok(())
     }
-    Step::Passes
 }

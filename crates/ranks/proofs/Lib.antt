@@ -1,2 +1,2 @@
 -- Laws of ranks that are guessed and checked.
-pub mod Ranking  -- from what was checked to a problem that is Monge by ranks
+pub mod Laws  -- from what was checked to a problem that is Monge by ranks

@@ -3,58 +3,52 @@
 // as its rank, and there are no ranks. The table that trials compare is filled for the one or the other.
 #![tactic(auto)]
 
-mod guess;
+mod costs;
 
 ghost use Rattle.std.specs.Prelude.{◌≡◌, ℕ, suc, ◌+◌, ◌<◌, ◌≤◌, true, false, length, slice_index};
 ghost use Rattle.transport.proofs.Finder.Ranks.{Renames, Ranked};
 ghost use Rattle.specification.specs.Costs.{cost_top};
-ghost use Rattle.slacks.specs.Slacks.{by_slacks, Capped, Slacks};
-ghost use Rattle.ranks.specs.Numbered.{Numbered, Listed, Plain, compared_of, Compared, Low, fits_by, AllFit};
+ghost use Rattle.slacks.specs.Slacks.{by_slacks, Slacks};
+ghost use Rattle.ranks.specs.Numbered.{Numbered, Plain, compared_of, Compared, Low, fits_by, AllFit};
 
-use files::wide;
-use guess::by_costs;
-use slacks::{PAIRS, SIDE, SLACK_MOST, entry_at};
+use book::inner::entry_at;
+use costs::Costs;
+use slacks::{PAIRS, SIDE, SLACK_MOST};
 use specification::{Call, Lot};
 
 // A line is a lot or a call: line i is lot i, and line SIDE + j is call j.
 pub const LINES: usize = 2 * SIDE;
 
-// A number for each line: names has the lot of rank p at p and the call of rank q at SIDE + q, and ranks the rank of each line.
+// A number for each line.
 pub type Lines = [u8; LINES];
+
+// Lots and calls numbered by ranks: names has the lot of rank p at p and the call of rank q at SIDE + q, and ranks the rank of each line. Whether
+// the book is Monge by the ranks; names and ranks are there in either case.
+#[derive(Clone, Copy)]
+pub struct Ranking {
+    pub ranked: bool,
+    pub names: Lines,
+    pub ranks: Lines,
+}
 
 // The cost that a gap counts as, a pair that is not eligible: more than any two costs together.
 pub const GAP_COST: u32 = 2 * SLACK_MOST;
 
-// What a list of lines holds for x, a lot or a call by the line that it is counted from.
-fn line_at(lines: &Lines, from: usize, x: usize) -> usize
-    requires { (from ≤ 32) × (x < 32) }
-    ensures { result ≡ slice_index lines.now (from + x) }
+// Whether the entry of x in a list leads, by another list, back to x.
+fn leads_back(there: &[u8], back: &[u8], x: usize) -> bool
+    requires { x < length there.now }
+    ensures { result ≡ true → (slice_index there.now x < length back.now) × (slice_index back.now (slice_index there.now x) ≡ x) }
 {
-    wide(lines[from + x])
+    let to = usize::from(there[x]);
+    to < back.len() && usize::from(back[to]) == x
 }
 
-// Whether the n numbers from a line on are named anew: the names and the ranks lead back to each other.
-fn renames(names: &Lines, ranks: &Lines, from: usize, n: usize) -> bool
-    requires { (from ≤ 32) × (n ≤ 32) }
-    ensures { result ≡ true → Renames n (λ i. slice_index ranks.now (from + i)) (λ p. slice_index names.now (from + p)) }
+// Whether lots or calls are named anew: their names and their ranks lead back to each other.
+fn renames(names: &[u8], ranks: &[u8]) -> bool
+    requires { length ranks.now ≡ length names.now }
+    ensures { result ≡ true → Renames (length names.now) (λ i. slice_index ranks.now i) (λ p. slice_index names.now p) }
 {
-    for x in 0..n {
-        let rank = line_at(ranks, from, x);
-        let name = line_at(names, from, x);
-        if n <= rank {
-            return false;
-        }
-        if n <= name {
-            return false;
-        }
-        if line_at(names, from, rank) != x {
-            return false;
-        }
-        if line_at(ranks, from, name) != x {
-            return false;
-        }
-    }
-    true
+    (0..names.len()).all(|x| leads_back(ranks, names, x) && leads_back(names, ranks, x))
 }
 
 // Whether a pair fits with a corner, another lot and another call, by their costs. A gap is dearer than two costs together, so none fits with it.
@@ -62,46 +56,27 @@ pub fn fits(costs: &[u32; PAIRS], lot: Lot, call: Call, other: Lot, corner: Call
     requires { (lot.0 < 32) × (call.0 < 32) × (other.0 < 32) × (corner.0 < 32) × Low costs.now }
     ensures { result ≡ fits_by costs.now lot.0 call.0 other.0 corner.0 }
 {
-    entry_at(costs, Lot(lot.0), Call(call.0)) + entry_at(costs, Lot(other.0), Call(corner.0))
+    entry_at(costs, lot, call) + entry_at(costs, other, corner)
         <= entry_at(costs, lot, corner) + entry_at(costs, other, call)
 }
 
-// Whether all neighbours by the ranks fit.
-fn all_fit(costs: &[u32; PAIRS], n: usize, m: usize, names: &Lines) -> bool
-    requires { Low costs.now × (n ≤ 32) × (m ≤ 32) × ((p : ℕ) → p < n → slice_index names.now p < n)
-        × ((q : ℕ) → q < m → slice_index names.now (32 + q) < m) }
-    ensures { result ≡ true → AllFit costs.now names.now n m }
-{
-    let mut p = 0;
-    while p + 1 < n {
-        let i = wide(names[p]);
-        let k = wide(names[p + 1]);
-        // Whether neighbours of ranks p and p + 1 do not fit. All are tried, so that there is no branch.
-        let mut found = false;
-        let mut q = 0;
-        while q + 1 < m {
-            let j = line_at(names, SIDE, q);
-            let l = line_at(names, SIDE, q + 1);
-            found = !fits(costs, Lot(i), Call(j), Lot(k), Call(l)) || found;
-            q += 1;
-        }
-        if found {
-            return false;
-        }
-        p += 1;
+impl Ranking {
+    // Whether lots and calls are named anew.
+    fn is_numbered(&self, n: usize, m: usize) -> bool
+        requires { (n ≤ 32) × (m ≤ 32) }
+        ensures { result ≡ true → Numbered n m self.now.names self.now.ranks }
+    {
+        renames(&self.names[..n], &self.ranks[..n])
+            && renames(&self.names[SIDE..SIDE + m], &self.ranks[SIDE..SIDE + m])
     }
-    true
-}
 
-// Whether lots and calls are named anew, and all neighbours by their ranks fit.
-fn passes(costs: &[u32; PAIRS], n: usize, m: usize, names: &Lines, ranks: &Lines) -> bool
-    requires { Low costs.now × (n ≤ 32) × (m ≤ 32) }
-    ensures { result ≡ true → Numbered n m names.now ranks.now × AllFit costs.now names.now n m }
-{
-    if !renames(names, ranks, 0, n) || !renames(names, ranks, SIDE, m) {
-        return false;
+    // Whether they are, and all neighbours by their ranks fit.
+    fn passes(&self, costs: &Costs) -> bool
+        ensures { result ≡ true → Numbered costs.now.lots costs.now.calls self.now.names self.now.ranks
+            × AllFit costs.now.table.now self.now.names costs.now.lots costs.now.calls }
+    {
+        self.is_numbered(costs.lots, costs.calls) && costs.all_fit(&self.names)
     }
-    all_fit(costs, n, m, names)
 }
 
 // Each lot and each call has its own number.
@@ -109,70 +84,82 @@ fn numbers() -> Lines
     ensures { (length result ≡ 64) × Plain result }
 {
     let mut lines: Lines = [0; LINES];
-    for x in 0..LINES {
-        lines[x] = (x % SIDE) as u8;
+    for (x, line) in lines.iter_mut().enumerate() {
+        *line = (x % SIDE) as u8;
     }
     lines
 }
 
-// What trials compare of a pair, by its slack: with ranks its cost, or that of a gap; without, its slack raised above all others, or 0.
-fn compared_of(ranked: bool, slack: u32) -> u32
+// What trials compare of a pair with ranks, by its slack: its cost, or that of a gap.
+fn cost_of(slack: u32) -> u32
     requires { slack ≤ suc cost_top }
-    ensures { result ≡ compared_of ranked slack }
+    ensures { result ≡ compared_of true slack }
 {
-    if ranked {
-        return if slack == 0 {
-            GAP_COST
-        } else {
-            SLACK_MOST - slack
-        };
+    if slack == 0 {
+        GAP_COST
+    } else {
+        SLACK_MOST - slack
     }
+}
+
+// What they compare without ranks: its slack raised above all others, or 0.
+fn raised(slack: u32) -> u32
+    requires { slack ≤ suc cost_top }
+    ensures { result ≡ compared_of false slack }
+{
     if slack == 0 { 0 } else { slack + SLACK_MOST }
 }
 
-// The table of that.
-fn fill(ranked: bool, slacks: &[u32; PAIRS], compared: &mut [u32; PAIRS])
-    requires { Capped slacks.now × (length compared.old ≡ 1024) }
-    ensures { Compared ranked slacks.now compared.new }
+// The table of the one or of the other. Its entries are counted, since nothing is known of what is written through an `iter_mut` that is zipped.
+fn fill<F: Fn(u32) -> u32>(of: F, slacks: &[u32; PAIRS], compared: &mut [u32; PAIRS])
+    requires { (x : ℕ) → F.pre of (slice_index slacks.now x) }
+    ensures { (x : ℕ) → x < 1024 → F.post of (slice_index slacks.now x) (slice_index compared.new x) }
 {
-    for x in 0..PAIRS {
-        compared[x] = compared_of(ranked, slacks[x]);
+    for (x, own) in compared.iter_mut().enumerate() {
+        *own = of(slacks[x]);
     }
 }
 
-// Numbers the lots and the calls, of which `total` pairs are eligible: the names by rank, and the ranks. Whether the book is Monge by the ranks; the
-// table that trials compare is of the one kind or of the other. A book with more than `SIDE` gaps is not tried.
+// Numbers the lots and the calls, of which `total` pairs are eligible. The table that trials compare is of the one kind or of the other. A book with more
+// than `SIDE` gaps is not tried.
 pub fn rank(
     slacks: &[u32; PAIRS],
     n: usize,
     m: usize,
     total: usize,
     compared: &mut [u32; PAIRS],
-    names: &mut Lines,
-    ranks: &mut Lines,
-) -> bool
-    requires { Slacks slacks.now n m × (total ≤ 1024) × (length compared.old ≡ 1024) × Listed names.old ranks.old }
-    ensures numbered { Numbered n m names.new ranks.new × Compared result slacks.now compared.new }
-    ensures ranked { result ≡ true → Ranked (by_slacks slacks.now n m) (λ i. slice_index ranks.new i) (λ j. slice_index ranks.new (32 + j)) }
-    ensures plain { result ≡ false → Plain ranks.new }
+) -> Ranking
+    requires { Slacks slacks.now n m × (total ≤ 1024) }
+    ensures numbered { Numbered n m result.names result.ranks × Compared result.ranked slacks.now compared.new }
+    ensures ranked { result.ranked ≡ true → Ranked (by_slacks slacks.now n m) (λ i. slice_index result.ranks i) (λ j. slice_index result.ranks (32 + j)) }
+    ensures plain { result.ranked ≡ false → Plain result.ranks }
 {
-    let plain = numbers();
-    *names = plain;
-    *ranks = plain;
+    let lines = numbers();
+    let plain = Ranking {
+        ranked: false,
+        names: lines,
+        ranks: lines,
+    };
     if total + SIDE < n * m {
-        fill(false, slacks, compared);
-        return false;
+        fill(raised, slacks, compared);
+        return plain;
     }
-    fill(true, slacks, compared);
-    if all_fit(compared, n, m, names) {
-        return true;
+    fill(cost_of, slacks, compared);
+    let costs = Costs {
+        table: compared,
+        lots: n,
+        calls: m,
+    };
+    if costs.all_fit(&plain.names) {
+        return Ranking {
+            ranked: true,
+            ..plain
+        };
     }
-    by_costs(compared, n, m, names, ranks);
-    if passes(compared, n, m, names, ranks) {
-        return true;
+    let guess = costs.guess();
+    if guess.passes(&costs) {
+        return guess;
     }
-    fill(false, slacks, compared);
-    *names = plain;
-    *ranks = plain;
-    false
+    fill(raised, slacks, compared);
+    plain
 }

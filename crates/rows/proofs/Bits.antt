@@ -2,18 +2,18 @@
 -- set bits below a bit grows by one past each set bit, so that c of them below bit c are all.
 use mathlib.Core.Path.{◌≡◌, refl, sym, ap, ◌∙◌}
 use Prim.Native.Nat.{ℕ, zero, suc, ◌+◌, ◌*◌, ◌/◌, ◌%◌, ◌-◌, ◌^◌, ◌≤◌, ◌<◌}
-use native.Mathlib.Nat.{lt_of_lt_of_le, lt_of_le_of_lt, mod-le, mod-lt, mod-eq_of_lt, div-one, div-eq_of_lt, div-le_self, mod-one, one-mul, add-zero, div-add-mod', pow-suc}
+use native.Mathlib.Nat.{lt_of_lt_of_le, lt_of_le_of_lt, mod-le, mod-lt, mod-eq_of_lt, div-eq_of_lt, mod-one, one-mul, add-zero, div-add-mod'}
 use native.Mathlib.Omega.{arith}
 use mathlib.Core.Bool.{Bool, true, false, true≢false}
 use mathlib.Core.Logic.{⊎_elim}
 use Rattle.files.proofs.Parts.{le_or_lt}
 use borrow.Author.Tests.{eqb-true, eqb-false}
-use lib.Dec.{eqb, lit<}
-use lib.Count.{ones, ones-le, ones_cat, count_trailing_zeros, under}
-use lib.Pow.{pow_pos, pow_mono, shl_exact, shr-shr}
+use lib.Dec.{lit<}
+use lib.Count.{ones, ones-le, ones_cat}
+use lib.Pow.{pow_pos, pow_mono, shl_exact}
 use Rattle.specification.specs.Book.{bit}
 use Rattle.specification.proofs.Bits.{ones_next}
-use Rattle.rows.specs.Words.{ones_below, SetFrom}
+use Rattle.rows.specs.Words.{ones_below}
 
 pub below_power : {word : ℕ} (j : ℕ) → word < 2 ^ 32 → 32 ≤ j → word < 2 ^ j
 below_power j h l = lt_of_lt_of_le h (pow_mono l)
@@ -93,70 +93,3 @@ module _ (word : ℕ) (first : word < 2 ^ ones word) where
 
   pub bit_after : (j : ℕ) → ones word ≤ j → bit word j ≡ false
   bit_after j h = bit_past word j (lt_of_lt_of_le first (pow_mono h))
-
--- ---- the lowest set bit: the trailing zeros are those of the halves
-pub digit_first : (w : ℕ) → w / 2 ^ 0 % 2 ≡ w % 2
-digit_first w = ap (λ (x : ℕ). x % 2) (div-one w)
-
-pub digit_next : (w l : ℕ) → w / 2 ^ suc l % 2 ≡ w / 2 / 2 ^ l % 2
-digit_next w l =
-    let e : 1 + l ≡ suc l = omega arith in
-    sym (ap (λ (x : ℕ). x % 2) (shr-shr w 1 l ∙ ap (λ (x : ℕ). w / 2 ^ x) e))
-
--- of k bits of n, bit t is set, and those below it are clear
-abbrev pub Trails : ℕ → ℕ → ℕ → Type 0
-Trails k n t = (t < k → n / 2 ^ t % 2 ≡ 1) × ((l : ℕ) → l < t → n / 2 ^ l % 2 ≡ 0)
-
-trails_step : (k n d t : ℕ) → n % 2 ≡ d → d < 2 → Trails k (n / 2) t → Trails (suc k) n (under d t)
-trails_step k n zero t e h r = (λ lt. digit_next n t ∙ r.0 (omega arith), below)
-  where
-    below : (l : ℕ) → l < suc t → n / 2 ^ l % 2 ≡ 0
-    below zero lt = digit_first n ∙ e
-    below (suc l) lt = digit_next n l ∙ r.1 l (omega arith)
-trails_step k n (suc zero) t e h r = (λ lt. digit_first n ∙ e, λ l lt. absurd (omega arith))
-trails_step k n (suc (suc d)) t e h r = absurd (omega arith)
-
-pub trails : (k n : ℕ) → Trails k n (count_trailing_zeros k n)
-unfolding count_trailing_zeros
-trails zero n = (λ lt. absurd (omega arith), λ l lt. absurd (omega arith))
-trails (suc k) n = trails_step k n (n % 2) (count_trailing_zeros k (n / 2)) refl (mod-lt n (lit< tt)) (trails k (n / 2))
-
-under_lt : (k n d t : ℕ) → n % 2 ≡ d → d < 2 → 0 < n → (0 < n / 2 → t < k) → under d t < suc k
-under_lt k n zero t e h p f = omega (arith, f (omega arith))
-under_lt k n (suc d) t e h p f = omega arith
-
-pub trails_lt : (k n : ℕ) → 0 < n → n < 2 ^ k → count_trailing_zeros k n < k
-unfolding count_trailing_zeros
-trails_lt zero n p h = absurd (omega arith)
-trails_lt (suc k) n p h = under_lt k n (n % 2) (count_trailing_zeros k (n / 2)) refl (mod-lt n (lit< tt)) p
-    (λ q. trails_lt k (n / 2) q (omega (arith, pow-suc 2 k)))
-
--- bit k of a word, by the bits from bit j on
-bit_from : (word j k : ℕ) → j ≤ k → bit word k ≡ bit (word / 2 ^ j) (k - j)
-bit_from word j k h =
-    let e : j + (k - j) ≡ k = omega arith in
-    sym (ap (λ (x : ℕ). eqb (x % 2) 1) (shr-shr word j (k - j) ∙ ap (λ (x : ℕ). word / 2 ^ x) e))
-
-pub set_from_none : (word j : ℕ) → word / 2 ^ j ≡ 0 → SetFrom word j 32
-set_from_none word j e = record {
-  clear = λ k h l. bit_from word j k h ∙ rw e (bit_past 0 (k - j) (pow_pos (k - j)));
-  is_set = λ h. absurd (omega arith);
-  within = omega arith;
-  not_below = λ h. h;
-}
-
-pub set_from_some : (word j : ℕ) → word < 2 ^ 32 → 0 < word / 2 ^ j → SetFrom word j (count_trailing_zeros 32 (word / 2 ^ j) + j)
-set_from_some word j h p =
-    let high = word / 2 ^ j in
-    let t = count_trailing_zeros 32 high in
-    let known = trails 32 high in
-    let few = trails_lt 32 high p (lt_of_le_of_lt (div-le_self word (2 ^ j)) h) in
-    let back : t + j - j ≡ t = omega arith in
-    let set : bit word (t + j) ≡ true = bit_from word j (t + j) (omega arith) ∙ rw (back, known.0 few) in
-    let inside = bit_below word (t + j) 32 set h in
-    record {
-      clear = λ k l l'. bit_from word j k l ∙ rw (known.1 (k - j) (omega arith));
-      is_set = λ l. set;
-      within = omega arith;
-      not_below = λ l. omega arith;
-    }

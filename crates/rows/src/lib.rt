@@ -4,14 +4,13 @@
 
 pub mod word;
 
-ghost use Rattle.std.specs.Prelude.{◌≡◌, ◌+◌, ◌*◌, ◌-◌, ◌^◌, ◌≤◌, leb, length};
+ghost use Rattle.std.specs.Prelude.{◌≡◌, ◌+◌, ◌*◌, ◌≤◌, leb, length};
 ghost use Rattle.transport.specs.Finder.{every};
+ghost use Rattle.specification.specs.Reply.{told};
 ghost use Rattle.specification.specs.Bytes.{u32_at};
 ghost use Rattle.specification.specs.Costs.{cost_limit, cost_base, lifted_cost};
 ghost use Rattle.specification.specs.Book.{row_size, row_cost, read_costs, read_row};
-ghost use Rattle.files.specs.Files.{stated_step};
 
-use files::Step;
 use specification::{COST_LIMIT, Call, Lot, Refusal};
 
 // The word, and four bytes for each cost.
@@ -26,8 +25,7 @@ pub fn cost_in(row: &[u8], call: Call) -> u32
     ensures { result ≡ row_cost row.now call.0 }
 {
     let word = files::u32_at(row, 0);
-    let j = call.0;
-    files::u32_at(row, 4 + 4 * word::count_below(word, j))
+    files::u32_at(row, 4 + 4 * word::count_below(word, call.0))
 }
 
 // Whether none of the `count` 32-bit numbers from byte `start` on, with the base added, is above the limit. It does not stop at the first
@@ -38,30 +36,27 @@ pub fn all_within(s: &[u8], start: usize, count: usize, base: u32, limit: u32) -
 {
     let mut within = true;
     for k in 0..count {
-        if limit < signed::lifted(files::u32_in(s, start + 4 * k), base) {
-            within = false;
-        }
+        within &= signed::lifted(files::u32_in(s, start + 4 * k), base) <= limit;
     }
     within
 }
 
 // The first cost outside the range of a version, lowest bit first, of a row that stands whole in the book.
-fn first_outside(row: &[u8], version: u16, lot: Lot, calls: usize) -> Step
+fn first_outside(row: &[u8], version: u16, lot: Lot, calls: usize) -> Result<(), Refusal>
     requires { row_size row.now ≤ length row.now }
-    ensures { stated_step result ≡ read_costs row.now version lot.0 calls 0 }
+    ensures { told result ≡ read_costs row.now version lot.0 calls 0 }
 {
     let word = files::u32_at(row, 0);
-    let i = lot.0;
     let mut at = 4;
     for j in 0..calls {
         if word::is_set(word, j) {
             if signed::outside(files::u32_in(row, at), version) {
-                return Step::Refused(Refusal::CostTooHigh(Lot(i), Call(j)));
+                return Err(Refusal::CostTooHigh(lot, Call(j)));
             }
             at += 4;
         }
     }
-    Step::Passes
+    Ok(())
 }
 
 // Whether the first `count` costs of a row are within the range of a version. The base is a constant in each call, so that the compiler has
@@ -77,29 +72,28 @@ fn within(row: &[u8], version: u16, count: usize) -> bool
 }
 
 // The costs of a row that stands whole in the book: none may be outside the range. Only where one is, they are gone through by call.
-fn read_costs(row: &[u8], version: u16, lot: Lot, calls: usize) -> Step
+fn read_costs(row: &[u8], version: u16, lot: Lot, calls: usize) -> Result<(), Refusal>
     requires { row_size row.now ≤ length row.now }
-    ensures { stated_step result ≡ read_costs row.now version lot.0 calls 0 }
+    ensures { told result ≡ read_costs row.now version lot.0 calls 0 }
 {
     if within(row, version, word::count(files::u32_at(row, 0))) {
-        return Step::Passes;
+        return Ok(());
     }
     first_outside(row, version, lot, calls)
 }
 
-// The row of a lot: its word, which is at most the word of all calls, and then its costs.
-pub fn read_row(row: &[u8], version: u16, lot: Lot, calls: usize, all: u32) -> Step
-    requires { all ≡ 2 ^ calls - 1 }
-    ensures { stated_step result ≡ read_row row.now version lot.0 calls }
+// The row of a lot: its word, with no bit from the number of calls on, and then its costs.
+pub fn read_row(row: &[u8], version: u16, lot: Lot, calls: usize) -> Result<(), Refusal>
+    ensures { told result ≡ read_row row.now version lot.0 calls }
 {
     if row.len() < 4 {
-        return Step::Refused(Refusal::EndsEarly);
+        return Err(Refusal::EndsEarly);
     }
-    if all < files::u32_at(row, 0) {
-        return Step::Refused(Refusal::BitOutside(lot));
+    if word::reaches(files::u32_at(row, 0), calls) {
+        return Err(Refusal::BitOutside(lot));
     }
     if row.len() < size(row) {
-        return Step::Refused(Refusal::EndsEarly);
+        return Err(Refusal::EndsEarly);
     }
     read_costs(row, version, lot, calls)
 }

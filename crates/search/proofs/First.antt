@@ -21,12 +21,17 @@ use Rattle.words.specs.Lefts.{is_left}
 use Rattle.words.proofs.Sets.{bit_none, bit_all}
 use Rattle.ranks.specs.Numbered.{Compared}
 use Rattle.lines.specs.Lines.{Lined, Ended}
+use Rattle.lines.specs.declared.Left.{Left}
+use Rattle.trial.specs.declared.table.Given.{Given}
 use Rattle.trial.specs.Testing.{Raised}
-use Rattle.trial.specs.Left.{Table}
-use Rattle.search.specs.Marks.{Half, Asked, TakenMarks, Standing}
+use Rattle.search.specs.declared.marks.Half.{Half}
+use Rattle.search.specs.Marks.{HalfOf, Asked, TakenMarks, Standing}
 
 -- no mark stands at first
-half_first : {ranked : Bool} {slacks lefts nears fars : List ℕ} → Half ranked slacks lefts nears fars (replicate 32 0) (replicate 32 0)
+abbrev pub no_marks : Half
+no_marks = record { waits = replicate 32 0; marks = replicate 32 0 }
+
+half_first : {ranked : Bool} {slacks lefts nears fars : List ℕ} → HalfOf ranked slacks lefts nears fars no_marks
 half_first = record {
   hindered = λ i j on e. absurd (true≢false (sym e ∙ clear i j));
   waits_are = record { waiting = λ i j e. absurd (true≢false (sym e ∙ clear i j)); long = length-replicate {A = ℕ} 32 0; waits_long = length-replicate {A = ℕ} 32 0 };
@@ -42,41 +47,47 @@ taken_first {eligible} = record {
   long = length-replicate {A = ℕ} 1024 0;
 }
 
-module _ {ranked : Bool} {slacks : List ℕ} {n m : ℕ} {names ranks eligible : List ℕ} (t : Table ranked slacks n m names ranks eligible) where
+module _ (given : Given) where
   -- a pair that is not eligible has no slack
-  no_slack : (i l : ℕ) → i < n → l < 32 → is_left eligible i l ≡ false → entry slacks i l ≡ 0
-  no_slack i l hi hl e = by_cases (dec_lt l m)
-      (λ b. eqb-true (entry slacks i l) 0 (not-false (eqb (entry slacks i l) 0) (sym (t.eligible_are.each i l hi b) ∙ e)))
-      (λ b. t.slacks_are.beyond i l hi (omega arith) hl)
+  no_slack : (i l : ℕ) → i < given.lots → l < 32 → is_left given.eligible.now i l ≡ false → entry given.slacks.now i l ≡ 0
+  no_slack i l hi hl e = by_cases (dec_lt l given.calls)
+      (λ b. eqb-true (entry given.slacks.now i l) 0 (not-false (eqb (entry given.slacks.now i l) 0) (sym (given.table.eligible_are.each i l hi b) ∙ e)))
+      (λ b. given.table.slacks_are.beyond i l hi (omega arith) hl)
 
-  raised_first : {compared : List ℕ} → Compared false slacks compared → Raised slacks eligible compared
+  raised_first : {compared : List ℕ} → Compared false given.slacks.now compared → Raised given.slacks.now given.eligible.now compared
   raised_first {compared} f = record {
     on = λ i l hi hl e.
-        let (hi, hj) = t.eligible_are.inside i l e in
-        f.each (32 * i + l) (omega arith) ∙ rw (not-true (eqb (entry slacks i l) 0) (sym (t.eligible_are.each i l hi hj) ∙ e));
+        let (hi, hj) = given.table.eligible_are.inside i l e in
+        f.each (32 * i + l) (omega arith) ∙ rw (not-true (eqb (entry given.slacks.now i l) 0) (sym (given.table.eligible_are.each i l hi hj) ∙ e));
     gone = λ i j l on hl e.
-        let hi = (t.eligible_are.inside i j on).0 in
-        f.each (32 * i + l) (omega (arith, t.slacks_are.lots_few)) ∙ rw (eq-eqb (entry slacks i l) 0 (no_slack i l hi hl e));
+        let hi = (given.table.eligible_are.inside i j on).0 in
+        f.each (32 * i + l) (omega (arith, given.table.slacks_are.lots_few)) ∙ rw (eq-eqb (entry given.slacks.now i l) 0 (no_slack i l hi hl e));
     low = λ x. by_cases (dec_lt x 1024)
-        (λ lt. omega (arith, f.each x lt, raised_le (eqb (get_or slacks x 0) 0) (get_or slacks x 0), t.slacks_are.capped x))
+        (λ lt. omega (arith, f.each x lt, raised_le (eqb (get_or given.slacks.now x 0) 0) (get_or given.slacks.now x 0), given.table.slacks_are.capped x))
         (λ o. omega (arith, get_or-eq_default {A = ℕ} compared 0 {n = x} (omega (arith, f.long))));
   }
     where
       raised_le : (b : Bool) (v : ℕ) → cond b 0 (v + suc cost_top) ≤ v + suc cost_top
       raised_le b v = elim b as (λ k. cond k 0 (v + suc cost_top) ≤ v + suc cost_top) [ true ↦ omega arith | false ↦ omega arith ]
 
-  module _ {lines nears fars compared : List ℕ} (lined : Lined names ranks eligible lines) (ended : Ended names lines nears fars)
-      (f : Compared ranked slacks compared) where
-    pub standing_first : Standing ranked slacks names ranks eligible eligible lines nears fars compared (replicate 1024 0) (replicate 32 0)
-        (replicate 32 0) (replicate 32 0) (replicate 32 0)
-    standing_first = record {
-      left = record {
-        among = λ i j e. e;
+  module _ {left : Left} {compared : List ℕ} (all : left.lefts ≡ given.eligible.now) (lined : Lined given.ranking.now left) (ended : Ended given.ranking.now left)
+      (f : Compared given.ranking.now.ranked given.slacks.now compared) where
+    pub standing_first : (to_ask : ℕ) → Standing given (record {
+      left = left;
+      passed = replicate 1024 0;
+      taken = replicate 1024 0;
+      low = no_marks;
+      high = no_marks;
+      to_ask = to_ask;
+    }) compared
+    standing_first to_ask = record {
+      kept = record {
+        among = λ i j e. rw all at e;
         lined = lined;
         ended = ended;
-        raised_is = λ e. raised_first (rw e at f);
+        raised_is = λ e. rw all (raised_first (rw e at f));
         costs_are = λ e. rw e at f;
-        lefts_long = t.eligible_are.long;
+        lefts_long = rw all given.table.eligible_are.long;
         compared_long = f.long;
       };
       passed_is = record {
@@ -86,13 +97,13 @@ module _ {ranked : Bool} {slacks : List ℕ} {n m : ℕ} {names ranks eligible :
       marks = record { low_half = half_first; high_half = half_first };
     }
 
-  pub asked_first : {some : ℕ} {low high : List ℕ} → Below 4294967295 n some → Asked eligible low high some
+  pub asked_first : {some : ℕ} {low high : Half} → Below 4294967295 given.lots some → Asked given.eligible.now low high some
   asked_first w = record {
     each = λ i j on off.
-        let hi = (t.eligible_are.inside i j on).0 in
-        absurd (true≢false (sym (bit_all 32 i (omega (arith, t.slacks_are.lots_few))) ∙ sym (w.lower i hi) ∙ off));
+        let hi = (given.table.eligible_are.inside i j on).0 in
+        absurd (true≢false (sym (bit_all 32 i (omega (arith, given.table.slacks_are.lots_few))) ∙ sym (w.lower i hi) ∙ off));
   }
 
-  pub going_first : (pairs : List ℕ) (total : ℕ) → total ≡ size (by_slacks slacks n m) → Going (by_slacks slacks n m) (is_left eligible) pairs 0 total
-  going_first pairs total e = going_start (by_slacks slacks n m) (is_left eligible)
-      (λ i j hi hj. admits_is slacks n m i j hi hj ∙ sym (t.eligible_are.each i j hi hj)) pairs total e (omega (arith, size_few t.slacks_are))
+  pub going_first : (pairs : List ℕ) (total : ℕ) → total ≡ size (by_slacks given.slacks.now given.lots given.calls) → Going (by_slacks given.slacks.now given.lots given.calls) (is_left given.eligible.now) pairs 0 total
+  going_first pairs total e = going_start (by_slacks given.slacks.now given.lots given.calls) (is_left given.eligible.now)
+      (λ i j hi hj. admits_is given.slacks.now given.lots given.calls i j hi hj ∙ sym (given.table.eligible_are.each i j hi hj)) pairs total e (omega (arith, size_few given.table.slacks_are))

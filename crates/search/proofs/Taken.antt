@@ -11,12 +11,15 @@ use lib.ListN.{length, get_or, set, length-set}
 use lib.Seq.{get_or-set_same, get_or-set_other}
 use Rattle.transport.proofs.Laws.Tests.{false_of, and_right}
 use Rattle.specification.specs.Book.{bit}
-use Rattle.words.specs.Words.{Either}
 use Rattle.words.specs.Lefts.{is_left, TakenFrom}
 use Rattle.words.proofs.Lefts.{same_pair, gone, stays, fewer}
 use Rattle.lines.specs.Lines.{EndsKept}
+use Rattle.ranks.specs.declared.Ranking.{Ranking}
+use Rattle.trial.specs.declared.table.Given.{Given}
 use Rattle.trial.specs.Testing.{Raised}
-use Rattle.search.specs.Marks.{Half, marked, Asked, TakenMarks, Standing}
+use Rattle.search.specs.declared.marks.Half.{Half}
+use Rattle.search.specs.declared.Search.{Search}
+use Rattle.search.specs.Marks.{HalfOf, marked, Asked, TakenMarks, Standing}
 use Rattle.search.specs.Steps.{Unmarked, Taken}
 use Rattle.search.proofs.Trials.{or_elim}
 
@@ -36,9 +39,10 @@ module _ {i j : ℕ} {lefts lefts' : List ℕ} (t : TakenFrom i j lefts lefts') 
       other a l hl d = get_or-set_other compared (32 * i + j) (32 * a + l) 0 0 (λ z. d (omega arith, omega arith))
 
   -- what hinders a pair whose mark stays is left, and by ranks it stays at the ends
-  half_then : {ranked : Bool} {slacks nears nears' fars fars' taken other waits waits' marks marks' : List ℕ} {again : ℕ} → Half ranked slacks lefts nears fars waits marks
-      → EndsKept i j lefts' nears nears' → EndsKept i j lefts' fars fars' → Unmarked ranked i j (get_or nears i 0) (get_or fars (32 + j) 0) taken other waits' marks marks' again
-      → Half ranked slacks lefts' nears' fars' waits' marks'
+  half_then : {ranked : Bool} {slacks nears nears' fars fars' taken : List ℕ} {other half half' : Half} {again : ℕ} → HalfOf ranked slacks lefts nears fars half
+      → EndsKept i j lefts' nears nears' → EndsKept i j lefts' fars fars'
+      → Unmarked ranked i j (get_or nears i 0) (get_or fars (32 + j) 0) taken other half half' again
+      → HalfOf ranked slacks lefts' nears' fars' half'
   half_then {nears = nears} {fars = fars} h n f less = record {
     hindered = λ a l e m.
         let x = h.hindered a l (fewer t a l e) (less.fewer a l m) in
@@ -78,26 +82,23 @@ lowered_long : (compared : List ℕ) (x : ℕ) (b : Bool) → length compared �
 lowered_long compared x true e = e
 lowered_long compared x false e = length-set compared x 0 ∙ e
 
--- all that is kept, and the lots to be asked
-module _ {ranked : Bool} {names ranks : List ℕ} {i j : ℕ} {lefts lefts' lines' nears nears' fars fars' compared compared' taken taken' lows' highs' low low' high high' : List ℕ} {again : ℕ}
-    (t : Taken ranked names ranks i j lefts lefts' lines' nears nears' fars fars' compared compared' taken taken' lows' highs' low low' high high' again) where
-  pub standing_then : {slacks eligible lines passed lows highs : List ℕ} → i < 32 → j < 32
-      → Standing ranked slacks names ranks eligible lefts lines nears fars compared passed lows highs low high
-      → Standing ranked slacks names ranks eligible lefts' lines' nears' fars' compared' passed lows' highs' low' high'
+-- all that is kept
+module _ {given : Given} {i j : ℕ} {search search' : Search} {compared compared' : List ℕ} (t : Taken given.ranking.now i j search search' compared compared') where
+  pub standing_then : i < 32 → j < 32 → Standing given search compared → Standing given search' compared'
   standing_then hi hj s = let from = t.from_lot in
       record {
-        left = record {
-          among = λ a l e. s.left.among a l (fewer from a l e);
+        kept = record {
+          among = λ a l e. s.kept.among a l (fewer from a l e);
           lined = t.lined;
           ended = t.ended;
-          raised_is = λ e. rw (t.lowered, e) (raised_then from hi hj s.left.compared_long (s.left.raised_is e));
-          costs_are = λ e. rw (t.lowered, e) (s.left.costs_are e);
-          lefts_long = from.long ∙ s.left.lefts_long;
-          compared_long = rw t.lowered (lowered_long compared (32 * i + j) ranked s.left.compared_long);
+          raised_is = λ e. rw (t.lowered, e) (raised_then from hi hj s.kept.compared_long (s.kept.raised_is e));
+          costs_are = λ e. rw (t.lowered, e) (s.kept.costs_are e);
+          lefts_long = from.long ∙ s.kept.lefts_long;
+          compared_long = rw t.lowered (lowered_long compared (32 * i + j) given.ranking.now.ranked s.kept.compared_long);
         };
         passed_is = record {
-          each = λ a l p ha hl lt. record { fits = λ e c f. (s.passed_is.each a l p ha hl lt).fits (fewer from _ l e) c (fewer from a c f) };
-          long = s.passed_is.long;
+          each = λ a l p ha hl lt. record { fits = λ e c f. (s.passed_is.each a l p ha hl (rw t.passed_kept at lt)).fits (fewer from _ l e) c (fewer from a c f) };
+          long = rw t.passed_kept s.passed_is.long;
         };
         marks = record {
           low_half = half_then from s.marks.low_half t.nears_kept t.fars_kept t.low_unmarked;
@@ -105,29 +106,36 @@ module _ {ranked : Bool} {names ranks : List ℕ} {i j : ℕ} {lefts lefts' line
         };
       }
 
-  pub marks_then : {eligible : List ℕ} → i < 32 → j < 32 → TakenMarks eligible lefts taken → TakenMarks eligible lefts' taken'
+-- the marks of the pairs that are taken, and the lots to be asked
+module _ {ranking : Ranking} {i j : ℕ} {search search' : Search} {compared compared' : List ℕ} (t : Taken ranking i j search search' compared compared') where
+  pub marks_then : {eligible : List ℕ} → i < 32 → j < 32 → TakenMarks eligible search.left.lefts search.taken → TakenMarks eligible search'.left.lefts search'.taken
   marks_then hi hj m = rw t.mark_put (taken_then t.from_lot hi hj m)
 
   -- a lot but i that is not asked again has its marks, or one in the other half
-  still_marked : (k l : ℕ) → (k ≡ i → ⊥) → bit again k ≡ false → get_or taken' (32 * k + l) 0 ≡ 0 → marked low high k l ≡ true → marked low' high' k l ≡ true
-  still_marked k l d off free m = or_elim (is_left low k l) (is_left high k l) m
-      (λ f. or_elim (is_left low' k l) (is_left high k l) (t.low_unmarked.asked k l d low_off free f) (λ y. rw y) in_high)
+  still_marked : (k l : ℕ) → (k ≡ i → ⊥) → bit t.again k ≡ false → get_or search'.taken (32 * k + l) 0 ≡ 0 → marked search.low search.high k l ≡ true
+      → marked search'.low search'.high k l ≡ true
+  still_marked k l d off free m = or_elim (is_left search.low.marks k l) (is_left search.high.marks k l) m
+      (λ f. or_elim (is_left search'.low.marks k l) (is_left search.high.marks k l) (t.low_unmarked.asked k l d low_off free f) (λ y. rw y) in_high)
       in_high
     where
       low_off : bit t.low_again k ≡ false
-      low_off = false_of (bit t.low_again k) (λ on. true≢false (sym (t.asked.each k ∙ rw on) ∙ off))
+      low_off = false_of (bit t.low_again k) (λ on. true≢false (sym (t.asked_again.each k ∙ rw on) ∙ off))
 
-      in_high : is_left high k l ≡ true → marked low' high' k l ≡ true
+      in_high : is_left search.high.marks k l ≡ true → marked search'.low search'.high k l ≡ true
       in_high f =
-          let high_off = false_of (bit t.high_again k) (λ on. true≢false (sym (t.asked.each k ∙ rw on (or-true (bit t.low_again k))) ∙ off)) in
-          or_elim (is_left high' k l) (is_left low' k l) (t.high_unmarked.asked k l d high_off free f) (λ y. rw y (or-true (is_left low' k l))) (λ y. rw y)
+          let high_off = false_of (bit t.high_again k) (λ on. true≢false (sym (t.asked_again.each k ∙ rw on (or-true (bit t.low_again k))) ∙ off)) in
+          or_elim (is_left search'.high.marks k l) (is_left search'.low.marks k l) (t.high_unmarked.asked k l d high_off free f)
+          (λ y. rw y (or-true (is_left search'.low.marks k l)))
+          (λ y. rw y)
 
-  pub asked_then : {eligible : List ℕ} {some some' : ℕ} → TakenMarks eligible lefts' taken' → ((k l : ℕ) → is_left lefts' k l ≡ true → (k < 32) × (l < 32))
-      → Asked lefts low high some → bit some i ≡ true → Either some again some' → Asked lefts' low' high' some'
-  asked_then {eligible} {some} marks few asked own more = record {
+  pub asked_then : {eligible : List ℕ} → TakenMarks eligible search'.left.lefts search'.taken
+      → ((k l : ℕ) → is_left search'.left.lefts k l ≡ true → (k < 32) × (l < 32))
+      → Asked search.left.lefts search.low search.high search.to_ask → bit search.to_ask i ≡ true
+      → Asked search'.left.lefts search'.low search'.high search'.to_ask
+  asked_then {eligible} marks few asked own = record {
     each = λ k l e o.
-        let off = false_of (bit some k) (λ on. true≢false (sym (rw on at (more.each k)) ∙ o)) in
+        let off = false_of (bit search.to_ask k) (λ on. true≢false (sym (rw on at (t.asked.each k)) ∙ o)) in
         let (hk, hl) = few k l e in
-        still_marked k l (λ z. true≢false (sym own ∙ ap (bit some) (sym z) ∙ off)) (sym (rw off at (more.each k)) ∙ o)
+        still_marked k l (λ z. true≢false (sym own ∙ ap (bit search.to_ask) (sym z) ∙ off)) (sym (rw off at (t.asked.each k)) ∙ o)
         (eqb-true _ 0 (and_right (is_left eligible k l) _ (sym (marks.each k l hk hl) ∙ e))) (asked.each k l (fewer t.from_lot k l e) off);
   }

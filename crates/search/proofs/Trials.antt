@@ -16,9 +16,12 @@ use Rattle.words.specs.Words.{LowestIn, Minus, Either, Without, IncludingIf}
 use Rattle.words.specs.Lefts.{is_left}
 use Rattle.words.proofs.Sets.{bit_none}
 use Rattle.words.proofs.Changes.{was_in}
+use Rattle.lines.specs.declared.Left.{Left}
+use Rattle.trial.specs.declared.Hindered.{Hindered}
 use Rattle.trial.specs.Testing.{Passes}
 use Rattle.trial.specs.Left.{HinderedIn, Halves}
-use Rattle.search.specs.Marks.{Half, Marks, marked, Asked}
+use Rattle.search.specs.declared.marks.Half.{Half}
+use Rattle.search.specs.Marks.{HalfOf, Marks, marked, Asked}
 use Rattle.search.specs.Steps.{PutIf, AskedBelow, FirstPair}
 
 -- one of two tests holds
@@ -53,13 +56,13 @@ module _ {test : Bool} {i j : ℕ} {words words' : List ℕ} (q : PutIf test i j
       was
 
 -- ---- a mark more
-half_more : {ranked : Bool} {slacks lefts nears fars waits waits' marks marks' : List ℕ} {test : Bool} {i j : ℕ}
-    → Half ranked slacks lefts nears fars waits marks → (test ≡ true → HinderedIn ranked slacks lefts nears fars i j)
-    → PutIf test i j marks marks' → PutIf test j i waits waits' → Half ranked slacks lefts nears fars waits' marks'
-half_more {ranked} {slacks} {lefts} {nears} {fars} {waits' = waits'} h told q w = record {
+half_more : {ranked : Bool} {slacks lefts nears fars : List ℕ} {half half' : Half} {test : Bool} {i j : ℕ}
+    → HalfOf ranked slacks lefts nears fars half → (test ≡ true → HinderedIn ranked slacks lefts nears fars i j)
+    → PutIf test i j half.marks half'.marks → PutIf test j i half.waits half'.waits → HalfOf ranked slacks lefts nears fars half'
+half_more {ranked} {slacks} {lefts} {nears} {fars} {half' = half'} h told q w = record {
   hindered = λ a l on e. put_says q (HinderedIn ranked slacks lefts nears fars) a l e (h.hindered a l on) told;
   waits_are = record {
-    waiting = λ a l e. put_says q (λ (a l : ℕ). is_left waits' l a ≡ true) a l e (λ was. put_grows w l a (h.waits_are.waiting a l was)) (put_in w);
+    waiting = λ a l e. put_says q (λ (a l : ℕ). is_left half'.waits l a ≡ true) a l e (λ was. put_grows w l a (h.waits_are.waiting a l was)) (put_in w);
     long = q.long ∙ h.waits_are.long;
     waits_long = w.long ∙ h.waits_are.waits_long;
   };
@@ -69,19 +72,19 @@ half_more {ranked} {slacks} {lefts} {nears} {fars} {waits' = waits'} h told q w 
 hindered_not : {ranked : Bool} {slacks lefts nears fars : List ℕ} {i j : ℕ} → HinderedIn ranked slacks lefts nears fars i j → Passes slacks lefts i j → ⊥
 hindered_not r p = r.by_it.unfit ((p.passed r.lot).fits r.by_it.held r.call r.by_it.left)
 
-marked_not : {ranked : Bool} {slacks lefts nears fars lows highs low high : List ℕ} → Marks ranked slacks lefts nears fars lows highs low high
-    → (i j : ℕ) → marked low high i j ≡ true → Passes slacks lefts i j → ⊥
-marked_not {low = low} {high} h i j e p = or_elim (is_left low i j) (is_left high i j) e
+marked_not : {ranked : Bool} {slacks : List ℕ} {left : Left} {low high : Half} → Marks ranked slacks left low high
+    → (i j : ℕ) → marked low high i j ≡ true → Passes slacks left.lefts i j → ⊥
+marked_not {low = low} {high} h i j e p = or_elim (is_left low.marks i j) (is_left high.marks i j) e
     (λ f. hindered_not (h.low_half.hindered i j p.on f) p)
     (λ f. hindered_not (h.high_half.hindered i j p.on f) p)
 
 -- ---- the calls of lot i that are still to be tried: the others that are left are marked, and no other lot's marks changed
-pub record Trials (lefts low₀ low high₀ high : List ℕ) (i asks : ℕ) : Type 0 where
+pub record Trials (lefts : List ℕ) (low₀ low high₀ high : Half) (i asks : ℕ) : Type 0 where
   pub untried : (l : ℕ) → is_left lefts i l ≡ true → bit asks l ≡ false → marked low high i l ≡ true
   pub among : (l : ℕ) → bit asks l ≡ true → is_left lefts i l ≡ true
   pub others : (k l : ℕ) → (k ≡ i → ⊥) → marked low high k l ≡ marked low₀ high₀ k l
 
-pub trials_first : {lefts low high : List ℕ} {i both asks : ℕ} → Either (get_or low i 0) (get_or high i 0) both → Minus (get_or lefts i 0) both asks
+pub trials_first : {lefts : List ℕ} {low high : Half} {i both asks : ℕ} → Either (get_or low.marks i 0) (get_or high.marks i 0) both → Minus (get_or lefts i 0) both asks
     → Trials lefts low low high high i asks
 trials_first {lefts} {i = i} {both} b w = record {
   untried = λ l on off. sym (b.each l) ∙ not-false (bit both l) (sym (rw on at (w.each l)) ∙ off);
@@ -90,16 +93,16 @@ trials_first {lefts} {i = i} {both} b w = record {
 }
 
 -- one is tried and marked
-pub trials_next : {ranked : Bool} {slacks lefts nears fars lows lows' highs highs' low₀ low low' high₀ high high' : List ℕ} {i j asks after : ℕ} {in_low in_high : Bool}
-    → Trials lefts low₀ low high₀ high i asks → Marks ranked slacks lefts nears fars lows highs low high
-    → Halves ranked slacks lefts nears fars i j in_low in_high → Without asks j after → PutIf in_low i j low low' × PutIf in_low j i lows lows'
-    → PutIf in_high i j high high' × PutIf in_high j i highs highs'
-    → Trials lefts low₀ low' high₀ high' i after × Marks ranked slacks lefts nears fars lows' highs' low' high'
-trials_next {low = low} {low'} {i = i} {j} {in_low = in_low} {in_high} t h halves w (l, lw) (u, hw) = (
+pub trials_next : {ranked : Bool} {slacks : List ℕ} {left : Left} {low₀ low low' high₀ high high' : Half} {i j asks after : ℕ} {told : Hindered}
+    → Trials left.lefts low₀ low high₀ high i asks → Marks ranked slacks left low high
+    → Halves ranked slacks left i j told → Without asks j after → PutIf told.low i j low.marks low'.marks × PutIf told.low j i low.waits low'.waits
+    → PutIf told.high i j high.marks high'.marks × PutIf told.high j i high.waits high'.waits
+    → Trials left.lefts low₀ low' high₀ high' i after × Marks ranked slacks left low' high'
+trials_next {low = low} {low'} {i = i} {j} {told = told} t h halves w (l, lw) (u, hw) = (
   record {
     untried = λ l' on off. by_cases (ℕ_discrete l' j)
-        (λ e. rw e (or_elim in_low in_high halves.told (λ f. rw (put_in l f)) (λ f. rw (put_in u f) (or-true (is_left low' i j)))))
-        (λ d. or_elim (is_left low i l') _ (t.untried l' on (sym (w.others l' d) ∙ off)) (λ f. rw (put_grows l i l' f)) (λ f. rw (put_grows u i l' f) (or-true (is_left low' i l'))));
+        (λ e. rw e (or_elim told.low told.high halves.told_in (λ f. rw (put_in l f)) (λ f. rw (put_in u f) (or-true (is_left low'.marks i j)))))
+        (λ d. or_elim (is_left low.marks i l') _ (t.untried l' on (sym (w.others l' d) ∙ off)) (λ f. rw (put_grows l i l' f)) (λ f. rw (put_grows u i l' f) (or-true (is_left low'.marks i l'))));
     among = λ l' on. t.among l' (was_in w l' on);
     others = λ k l' d. rw (l.each k l', u.each k l', ne_eqb k i d) (t.others k l' d);
   },
@@ -107,7 +110,7 @@ trials_next {low = low} {low'} {i = i} {j} {in_low = in_low} {in_high} t h halve
 )
 
 -- the lowest that passes is the first, and where none is left there is none
-module _ {lefts low₀ low high₀ high : List ℕ} {i asks : ℕ} (t : Trials lefts low₀ low high₀ high i asks) where
+module _ {lefts : List ℕ} {low₀ low high₀ high : Half} {i asks : ℕ} (t : Trials lefts low₀ low high₀ high i asks) where
   pub first_free : (j : ℕ) → LowestIn asks j → AskedBelow lefts i j low₀ low high₀ high
   first_free j low_is = record { own = λ l lt on. t.untried l on (low_is.none_below l lt); others = t.others }
 
@@ -115,16 +118,15 @@ module _ {lefts low₀ low high₀ high : List ℕ} {i asks : ℕ} (t : Trials l
   first_none e = record { own = λ l lt on. t.untried l on (rw (e, bit_none l)); others = t.others }
 
 -- ---- the lots that are still to be asked
-module _ {ranked : Bool} {slacks lefts nears fars lows highs low high : List ℕ} (h : Marks ranked slacks lefts nears fars lows highs low high) {lots : ℕ}
-    (s : Asked lefts low high lots) where
-  none_there : (i j : ℕ) → bit lots i ≡ false → Passes slacks lefts i j → ⊥
+module _ {ranked : Bool} {slacks : List ℕ} {left : Left} {low high : Half} (h : Marks ranked slacks left low high) {lots : ℕ} (s : Asked left.lefts low high lots) where
+  none_there : (i j : ℕ) → bit lots i ≡ false → Passes slacks left.lefts i j → ⊥
   none_there i j off p = marked_not h i j (s.each i j p.on off) p
 
-  pub none_first : lots ≡ 0 → (i j : ℕ) → Passes slacks lefts i j → ⊥
-  none_first e i j = none_there i j (rw (e, bit_none i))
+  pub none_first : ((i : ℕ) → bit lots i ≡ false) → (i j : ℕ) → Passes slacks left.lefts i j → ⊥
+  none_first none i j = none_there i j (none i)
 
-  pub pair_first : {low₀ high₀ : List ℕ} {i j : ℕ} → LowestIn lots i → i < 32
-      → AskedBelow lefts i j low₀ low high₀ high × Passes slacks lefts i j × (j < 32) → FirstPair slacks lefts i j
+  pub pair_first : {low₀ high₀ : Half} {i j : ℕ} → LowestIn lots i → i < 32
+      → AskedBelow left.lefts i j low₀ low high₀ high × Passes slacks left.lefts i j × (j < 32) → FirstPair slacks left.lefts i j
   pair_first {i = i} low_is hi (f, passes, hj) = record {
     lot_in = hi;
     call_in = hj;
@@ -134,7 +136,7 @@ module _ {ranked : Bool} {slacks lefts nears fars lows highs low high : List ℕ
   }
 
 -- a lot is asked: its own marks alone change, and it need not be asked again where all its pairs that are left are marked
-pub asked_next : {lefts low low' high high' : List ℕ} {i end lots after : ℕ} → Asked lefts low high lots → AskedBelow lefts i end low low' high high'
+pub asked_next : {lefts : List ℕ} {low low' high high' : Half} {i end lots after : ℕ} → Asked lefts low high lots → AskedBelow lefts i end low low' high high'
     → ((a : ℕ) → (a ≡ i → ⊥) → bit after a ≡ bit lots a) → (bit after i ≡ false → (l : ℕ) → is_left lefts i l ≡ true → l < end) → Asked lefts low' high' after
 asked_next {i = i} s f same all = record {
   each = λ a l left off. by_cases (ℕ_discrete a i)

@@ -1,149 +1,56 @@
 // The pair to take next: of the lots that are to be asked, the lowest that has a free pair, and its lowest call.
-ghost use Rattle.std.specs.Prelude.{◌≡◌, ◌<◌, length};
-ghost use Rattle.trial.specs.Left.{Tabled};
-ghost use Rattle.search.specs.Marks.{Asked, Standing};
-ghost use Rattle.search.specs.Steps.{PutIf, FirstIs, NextIs};
+ghost use Rattle.std.specs.Prelude.{◌≡◌, ◌<◌};
+ghost use Rattle.search.specs.Marks.{Asked, Standing, Unchanged};
+ghost use Rattle.search.specs.Steps.{FirstIs, NextIs};
 
-use ranks::LINES;
-use slacks::{PAIRS, SIDE};
+use super::Search;
+use slacks::PAIRS;
 use specification::{Call, Lot};
-use trial::{Trial, try_pair};
-use words::{either, including_if, lowest, minus, without};
+use trial::{Given, try_pair};
+use words::numbers::numbers_of;
+use words::{either, minus, without};
 
-// The next pair, with the lots that are still to be asked, or that there is none.
-#[derive(Clone, Copy)]
-pub enum Next {
-    Pair(Lot, Call, u32),
-    Nothing,
-}
-
-// The lowest call whose pair with a lot is free, or that there is none.
-#[derive(Clone, Copy)]
-pub enum First {
-    At(Call),
-    Nothing,
-}
-
-// The pair is marked in a half, where it is told to be hindered there, and its lot waits at its call.
-fn mark(told: bool, lot: Lot, call: Call, waits: &mut [u32; SIDE], marks: &mut [u32; SIDE])
-    requires { (lot.0 < 32) × (call.0 < 32) × (length waits.old ≡ 32) × (length marks.old ≡ 32) }
-    ensures put_if { PutIf told lot.0 call.0 marks.old marks.new }
-    ensures put_if_2 { PutIf told call.0 lot.0 waits.old waits.new }
-{
-    let i = lot.0;
-    let j = call.0;
-    marks[i] = including_if(told, marks[i], j);
-    waits[j] = including_if(told, waits[j], i);
-}
-
-// The lowest call whose pair with the lot is free. Only pairs without a mark are tried, and each that is hindered is marked.
-fn first_call(
-    slacks: &[u32; PAIRS],
-    ranked: bool,
-    names: &[u8; LINES],
-    ranks: &[u8; LINES],
-    eligible: &[u32; SIDE],
-    lefts: &[u32; SIDE],
-    lines: &[u32; LINES],
-    nears: &[u8; LINES],
-    fars: &[u8; LINES],
-    compared: &[u32; PAIRS],
-    lot: Lot,
-    passed: &mut [u8; PAIRS],
-    lows: &mut [u32; SIDE],
-    highs: &mut [u32; SIDE],
-    low: &mut [u32; SIDE],
-    high: &mut [u32; SIDE],
-) -> First
-    requires tabled { Tabled ranked slacks.now names.now ranks.now eligible.now × (lot.0 < 32) }
-    requires standing { Standing ranked slacks.now names.now ranks.now eligible.now lefts.now lines.now nears.now fars.now compared.now
-        passed.old lows.old highs.old low.old high.old }
-    ensures first_is { FirstIs slacks.now lefts.now lot.0 low.old low.new high.old high.new result }
-    ensures standing_2 { Standing ranked slacks.now names.now ranks.now eligible.now lefts.now
-        lines.now nears.now fars.now compared.now passed.new lows.new
-        highs.new low.new high.new }
-{
-    let i = lot.0;
-    let mut asks = minus(lefts[i], either(low[i], high[i]));
-    while 0 < asks {
-        let j = lowest(asks);
-        let answer = try_pair(
-            slacks,
-            ranked,
-            names,
-            ranks,
-            eligible,
-            lefts,
-            lines,
-            nears,
-            fars,
-            compared,
-            Lot(i),
-            Call(j),
-            passed,
+impl Search {
+    // The lowest call whose pair with the lot is free. Only pairs without a mark are tried, and each that is hindered is marked.
+    fn first_call(&mut self, given: &Given, compared: &[u32; PAIRS], lot: Lot) -> Option<Call>
+        requires lot { lot.0 < 32 }
+        requires standing { Standing given.now self.old compared.now }
+        ensures first_is { FirstIs given.now lot.0 self.old self.new result }
+        ensures standing { Standing given.now self.new compared.now }
+        ensures unchanged { Unchanged self.old self.new }
+        ensures to_ask { self.new.to_ask ≡ self.old.to_ask }
+    {
+        let i = lot.0;
+        let asks = minus(
+            self.left.lefts[i],
+            either(self.low.marks[i], self.high.marks[i]),
         );
-        let Trial::Hindered(in_low, in_high) = answer else {
-            return First::At(Call(j));
-        };
-        mark(in_low, Lot(i), Call(j), lows, low);
-        mark(in_high, Lot(i), Call(j), highs, high);
-        asks = without(asks, j);
-    }
-    First::Nothing
-}
-
-// The pair to take next, of the lots in `some`; the others have none.
-pub fn next_pair(
-    slacks: &[u32; PAIRS],
-    ranked: bool,
-    names: &[u8; LINES],
-    ranks: &[u8; LINES],
-    eligible: &[u32; SIDE],
-    lefts: &[u32; SIDE],
-    lines: &[u32; LINES],
-    nears: &[u8; LINES],
-    fars: &[u8; LINES],
-    compared: &[u32; PAIRS],
-    some: u32,
-    passed: &mut [u8; PAIRS],
-    lows: &mut [u32; SIDE],
-    highs: &mut [u32; SIDE],
-    low: &mut [u32; SIDE],
-    high: &mut [u32; SIDE],
-) -> Next
-    requires tabled { Tabled ranked slacks.now names.now ranks.now eligible.now × Asked lefts.now low.old high.old some }
-    requires standing { Standing ranked slacks.now names.now ranks.now eligible.now lefts.now lines.now nears.now fars.now compared.now
-        passed.old lows.old highs.old low.old high.old }
-    ensures next_is { NextIs slacks.now lefts.now low.new high.new result }
-    ensures standing_2 { Standing ranked slacks.now names.now ranks.now eligible.now lefts.now
-        lines.now nears.now fars.now compared.now passed.new lows.new
-        highs.new low.new high.new }
-{
-    let mut lots = some;
-    while 0 < lots {
-        let i = lowest(lots);
-        let first = first_call(
-            slacks,
-            ranked,
-            names,
-            ranks,
-            eligible,
-            lefts,
-            lines,
-            nears,
-            fars,
-            compared,
-            Lot(i),
-            passed,
-            lows,
-            highs,
-            low,
-            high,
-        );
-        if let First::At(call) = first {
-            return Next::Pair(Lot(i), call, lots);
+        for j in numbers_of(asks) {
+            let answer = try_pair(given, &self.left, compared, lot, Call(j), &mut self.passed);
+            let Some(hindered) = answer else {
+                return Some(Call(j));
+            };
+            self.low.mark(hindered.low, lot, Call(j));
+            self.high.mark(hindered.high, lot, Call(j));
         }
-        lots = without(lots, i);
+        None
     }
-    Next::Nothing
+
+    // The pair to take next; the lots that are not to be asked have none.
+    pub fn next_pair(&mut self, given: &Given, compared: &[u32; PAIRS]) -> Option<(Lot, Call)>
+        requires asked { Asked self.old.left.lefts self.old.low self.old.high self.old.to_ask }
+        requires standing { Standing given.now self.old compared.now }
+        ensures next_is { NextIs given.now self.new result }
+        ensures standing { Standing given.now self.new compared.now }
+        ensures unchanged { Unchanged self.old self.new }
+    {
+        for i in numbers_of(self.to_ask) {
+            let first = self.first_call(given, compared, Lot(i));
+            if let Some(call) = first {
+                return Some((Lot(i), call));
+            }
+            self.to_ask = without(self.to_ask, i);
+        }
+        None
+    }
 }

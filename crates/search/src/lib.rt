@@ -3,6 +3,7 @@
 #![tactic(auto)]
 
 mod asking;
+mod marks;
 mod taking;
 
 ghost use Rattle.std.specs.Prelude.{◌≡◌, ◌≤◌, length};
@@ -10,100 +11,56 @@ ghost use Rattle.transport.specs.Finder.{size, find};
 ghost use Rattle.slacks.specs.Slacks.{by_slacks};
 ghost use Rattle.slacks.specs.Found.{Finds};
 ghost use Rattle.ranks.specs.Numbered.{Compared};
-ghost use Rattle.trial.specs.Left.{Table};
 
-use asking::{Next, next_pair};
-use lines::first_lines;
-use ranks::LINES;
-use slacks::{PAIRS, SIDE, Search, put};
-use specification::{Call, Lot};
-use taking::take_pair;
-use words::{below, either};
+use lines::Left;
+use marks::Half;
+use slacks::{PAIRS, SIDE, put};
+use trial::Given;
+use words::below;
+
+// All that a search keeps: what is left; by pair: below which rank all lots let it pass, and 1 where it is taken; the marks of either half; and the
+// lots that are to be asked.
+#[derive(Clone, Copy)]
+struct Search {
+    left: Left,
+    passed: [u8; PAIRS],
+    taken: [u8; PAIRS],
+    low: Half,
+    high: Half,
+    to_ask: u32,
+}
 
 // An order of the eligible pairs: the count of its pairs, with two bytes a pair, lot and call, at the start of the array; or nothing where
-// there is none. With `ranked` the slacks are Monge by the ranks, and `compared`, the table that trials compare, holds the costs, gaps filled.
+// there is none. With ranks the slacks are Monge by them, and `compared`, the table that trials compare, holds the costs, gaps filled.
 pub fn find_pairs(
-    slacks: &[u32; PAIRS],
-    n: usize,
-    m: usize,
+    given: &Given,
     total: usize,
-    ranked: bool,
-    names: &[u8; LINES],
-    ranks: &[u8; LINES],
-    eligible: [u32; SIDE],
     compared: &mut [u32; PAIRS],
     pairs: &mut [u8],
-) -> Search
-    requires table { Table ranked slacks.now n m names.now ranks.now eligible }
-    requires compared { Compared ranked slacks.now compared.old × (total ≡ size (by_slacks slacks.now n m)) × (2048 ≤ length pairs.old) }
-    ensures { Finds (find (by_slacks slacks.now n m)) result pairs.new }
+) -> Option<usize>
+    requires compared { Compared given.now.ranking.now.ranked given.now.slacks.now compared.old }
+    requires total { (total ≡ size (by_slacks given.now.slacks.now given.now.lots given.now.calls)) × (2048 ≤ length pairs.old) }
+    ensures { Finds (find (by_slacks given.now.slacks.now given.now.lots given.now.calls)) result pairs.new }
 {
-    // By line: the ranks left to it, and the names of the lowest and the highest.
-    let mut lines: [u32; LINES] = [0; LINES];
-    let mut nears: [u8; LINES] = [0; LINES];
-    let mut fars: [u8; LINES] = [0; LINES];
-    first_lines(
-        ranked, names, ranks, &eligible, n, m, &mut lines, &mut nears, &mut fars,
-    );
-    // By lot, a row of `SIDE` calls: below which rank all lots let a pair pass.
-    let mut passed: [u8; PAIRS] = [0; PAIRS];
-    // By lot, in the same way: 1 for a pair that is taken.
-    let mut taken: [u8; PAIRS] = [0; PAIRS];
-    // By lot: the calls left to it.
-    let mut lefts = eligible;
-    // For either half, low and high. By lot: the calls whose pairs are marked. By call: the lots that wait at it, all whose pairs with it are marked
-    // and maybe others.
-    let mut lows: [u32; SIDE] = [0; SIDE];
-    let mut highs: [u32; SIDE] = [0; SIDE];
-    let mut low: [u32; SIDE] = [0; SIDE];
-    let mut high: [u32; SIDE] = [0; SIDE];
-    // The lots to be asked.
-    let mut some = below(u32::MAX, n);
-    let mut count = 0;
-    while count < total {
-        let next = next_pair(
-            slacks,
-            ranked,
-            names,
-            ranks,
-            &eligible,
-            &lefts,
-            &lines,
-            &nears,
-            &fars,
-            compared,
-            some,
-            &mut passed,
-            &mut lows,
-            &mut highs,
-            &mut low,
-            &mut high,
-        );
-        let Next::Pair(lot, call, asked) = next else {
-            return Search::Nothing;
-        };
-        let i = lot.0;
-        let j = call.0;
-        let again = take_pair(
-            ranked,
-            names,
-            ranks,
-            Lot(i),
-            Call(j),
-            &mut lefts,
-            &mut lines,
-            &mut nears,
-            &mut fars,
-            compared,
-            &mut taken,
-            &mut lows,
-            &mut highs,
-            &mut low,
-            &mut high,
-        );
-        some = either(asked, again);
+    let unmarked = Half {
+        waits: [0; SIDE],
+        marks: [0; SIDE],
+    };
+    let mut search = Search {
+        left: Left::none(),
+        passed: [0; PAIRS],
+        taken: [0; PAIRS],
+        low: unmarked,
+        high: unmarked,
+        to_ask: below(u32::MAX, given.lots),
+    };
+    search
+        .left
+        .fill(given.ranking, given.eligible, given.lots, given.calls);
+    for count in 0..total {
+        let (lot, call) = search.next_pair(given, compared)?;
+        search.take_pair(given, lot, call, compared);
         put(pairs, count, lot, call);
-        count += 1;
     }
-    Search::Found(count)
+    Some(total)
 }

@@ -3,89 +3,49 @@
 // kept their contents.
 #![tactic(auto)]
 
-ghost use Rattle.std.specs.Prelude.{◌≡◌, ◌+◌, ◌<◌, ◌≤◌, length};
+ghost use Rattle.std.specs.Prelude.{◌≤◌};
 
-use specification::Found;
-use std::io;
+use std::{fmt, io};
 
-// A number after a space.
-fn show_number(rt: &impl Print, x: u64) -> io::Result<()> {
-    rt.write_all(b" ")?;
-    rt.print(x)
-}
+// The mark, the version and the count of an order file, and its first seven pairs.
+#[derive(Clone, Copy)]
+struct Opening<'a>(&'a [u8]);
 
-// The pair whose two bytes stand from a byte on.
-fn show_pair(rt: &impl Print, order: &[u8], at: usize) -> io::Result<()>
-    requires { at < 100 }
-{
-    show_number(rt, files::u8_at(order, at) as u64)?;
-    rt.write_all(b",")?;
-    rt.print(files::u8_at(order, at + 1) as u64)
-}
-
-fn show_pairs(rt: &impl Print, order: &[u8]) -> io::Result<()> {
-    for k in 0..7 {
-        if k < files::u16_at(order, 5) as usize {
-            show_pair(rt, order, 7 + 2 * k)?;
+impl fmt::Display for Opening<'_> {
+    fn fmt<W: fmt::Write>(&self, f: &mut fmt::Formatter<W>) -> fmt::Result {
+        let file = self.0;
+        let (opening, pairs) = file.split_at(file.len().min(7));
+        for byte in opening.iter().take(3) {
+            write!(f, "{byte} ")?;
         }
+        let count = files::u16_at(file, 5);
+        write!(f, "{} {count}", files::u16_at(file, 3))?;
+        let (pairs, _) = pairs.as_chunks::<2>();
+        for [lot, call] in pairs.iter().take(usize::from(count).min(7)) {
+            write!(f, " {lot},{call}")?;
+        }
+        Ok(())
     }
-    Ok(())
 }
 
-// 1 for a byte of the first contents, which are all 170.
-fn first_contents(byte: u8) -> u64
-    ensures { result ≤ 1 }
-{
-    if byte == 170 { 1 } else { 0 }
-}
-
-// How many bytes from one on are as at first.
-fn kept_from(order: &[u8], from: usize) -> u64 {
-    let mut kept: u64 = 0;
-    let mut k = from;
-    while k < order.len() {
-        kept += first_contents(files::u8_at(order, k));
-        k += 1;
-    }
-    kept
-}
-
-// The mark, the version and the count of pairs.
-fn show_opening(rt: &impl Print, order: &[u8]) -> io::Result<()> {
-    show_number(rt, files::u8_at(order, 0) as u64)?;
-    show_number(rt, files::u8_at(order, 1) as u64)?;
-    show_number(rt, files::u8_at(order, 2) as u64)?;
-    show_number(rt, files::u16_at(order, 3) as u64)?;
-    show_number(rt, files::u16_at(order, 5) as u64)
-}
-
-fn show_kept(rt: &impl Print, order: &[u8], from: usize) -> io::Result<()> {
-    rt.write_all(b" kept")?;
-    show_number(rt, kept_from(order, from))?;
-    rt.write_all(b"\n")
+// How many bytes are as at first, 170.
+fn kept(order: &[u8]) -> usize {
+    order.iter().filter(|byte| **byte == 170).count()
 }
 
 // A search with a buffer all of whose bytes are 170.
-fn show(rt: &impl Print, label: &[u8], book: &[u8], order: &mut [u8]) -> io::Result<()> {
-    rt.write_all(label)?;
-    let found = finder::find_order(book, order);
-    match found {
-        Found::Length(n) => {
-            show_number(rt, n as u64)?;
-            show_opening(rt, order)?;
-            show_pairs(rt, order)?;
-            show_kept(rt, order, n)
+fn show(rt: &impl Print, label: &str, book: &[u8], order: &mut [u8]) -> io::Result<()> {
+    match finder::find_order(book, order) {
+        Ok(length) => {
+            let (file, rest) = order.split_at(length.min(order.len()));
+            println!(rt; "{label} {length} {} kept {}", Opening(file), kept(rest))
         }
-        Found::Refused(r) => {
-            rt.write_all(b" REFUSED")?;
-            show_number(rt, files::number(r) as u64)?;
-            show_kept(rt, order, 0)
-        }
+        Err(refusal) => println!(rt; "{label} REFUSED {refusal} kept {}", kept(order)),
     }
 }
 
 // The same with a buffer of so many bytes, at most 40.
-fn show_in(rt: &impl Print, label: &[u8], book: &[u8], length: usize) -> io::Result<()>
+fn show_in(rt: &impl Print, label: &str, book: &[u8], length: usize) -> io::Result<()>
     requires { length ≤ 40 }
 {
     let mut order = [170u8; 40];
@@ -105,16 +65,12 @@ fn cost(lot: usize, call: usize) -> u8 {
     }
 }
 
-// The row of a lot with all calls eligible, from a byte on.
-fn fill_row(book: &mut [u8; 4231], at: usize, lot: usize)
-    requires { (at + 132 ≤ 4231) × (length book.old ≡ 4231) }
-    ensures { length book.new ≡ 4231 }
-{
-    for k in 0..4 {
-        book[at + k] = 255;
-    }
-    for call in 0..32 {
-        book[at + 4 + 4 * call] = cost(lot, call);
+// The row of a lot with all calls eligible.
+fn fill_row(row: &mut [u8; 132], lot: usize) {
+    row[..4].fill(255);
+    let (costs, _) = row[4..].as_chunks_mut::<4>();
+    for (call, place) in costs.iter_mut().enumerate() {
+        place[0] = cost(lot, call);
     }
 }
 
@@ -122,23 +78,22 @@ fn fill_row(book: &mut [u8; 4231], at: usize, lot: usize)
 // again from the first pair at each turn makes 184 million tests. The first lots, so many, have no pairs.
 fn long_search(first: usize) -> [u8; 4231]
     requires { first ≤ 32 }
-    ensures { 4231 ≡ length result }
 {
     let mut book = [0u8; 4231];
-    files::write_opening(&mut book, &files::BOOK_MARK, 32 + 256 * 32);
-    for lot in first..32 {
-        fill_row(&mut book, 7 + 4 * first + 132 * (lot - first), lot);
+    files::write_opening(&mut book, &files::BOOK_MARK, u16::from_le_bytes([32, 32]));
+    let (rows, _) = book[7 + 4 * first..].as_chunks_mut::<132>();
+    for (row, lot) in rows.iter_mut().zip(first..32) {
+        fill_row(row, lot);
     }
     book
 }
 
 // The same without its last pair, (31, 31), in the first 4,227 bytes: corners decide here too.
-fn long_search_with_gap() -> [u8; 4231]
-    ensures { 4231 ≡ length result }
-{
+fn long_search_with_gap() -> [u8; 4231] {
     let mut book = long_search(0);
+    let (rows, _) = book[7..].as_chunks_mut::<132>();
     // The highest byte of the last lot's word.
-    book[7 + 132 * 31 + 3] = 127;
+    rows[31][3] = 127;
     book
 }
 
@@ -182,72 +137,67 @@ const WIDEST: [u8; 31] =
     *b"CLB\x02\0\x02\x02\x03\0\0\0\x40\x42\x0f\0\xc0\xbd\xf0\xff\x03\0\0\0\xc0\xbd\xf0\xff\x40\x42\x0f\0";
 
 fn show_examples(rt: &impl Print) -> io::Result<()> {
-    show_in(rt, b"F1", &F1, 40)?;
-    show_in(rt, b"F7", &F7, 40)?;
-    show_in(rt, b"F9", &F9, 19)?;
-    show_in(rt, b"F10", &F10, 7)
+    show_in(rt, "F1", &F1, 40)?;
+    show_in(rt, "F7", &F7, 40)?;
+    show_in(rt, "F9", &F9, 19)?;
+    show_in(rt, "F10", &F10, 7)
 }
 
 // Too short comes before no order, and nothing is written where there is no order.
 fn show_no_order(rt: &impl Print) -> io::Result<()> {
-    show_in(rt, b"P48", &F9, 18)?;
-    show_in(rt, b"P48", &F9, 19)?;
-    show_in(rt, b"P49", &F9, 40)
+    show_in(rt, "P48", &F9, 18)?;
+    show_in(rt, "P48", &F9, 19)?;
+    show_in(rt, "P49", &F9, 40)
 }
 
 fn show_free_pairs(rt: &impl Print) -> io::Result<()> {
-    show_in(rt, b"P50", &FOURTH_TAKEN, 40)?;
-    show_in(rt, b"P51", &ONE_PAIR, 40)?;
-    show_in(rt, b"P52", &FREED, 40)
+    show_in(rt, "P50", &FOURTH_TAKEN, 40)?;
+    show_in(rt, "P51", &ONE_PAIR, 40)?;
+    show_in(rt, "P52", &FREED, 40)
 }
 
 // The reply is the length; a buffer of that length is long enough, one byte less is not.
 fn show_lengths(rt: &impl Print) -> io::Result<()> {
-    show_in(rt, b"P53", &F1, 15)?;
-    show_in(rt, b"P53", &F1, 14)?;
-    show_in(rt, b"P54", &NO_PAIRS, 40)
+    show_in(rt, "P53", &F1, 15)?;
+    show_in(rt, "P53", &F1, 14)?;
+    show_in(rt, "P54", &NO_PAIRS, 40)
 }
 
 // No lots, no calls, or neither (request 5): the file has 7 bytes, and a buffer of 6 is too short.
 fn show_zero_counts(rt: &impl Print) -> io::Result<()> {
-    show_in(rt, b"P92", b"CLB\x01\0\0\0", 7)?;
-    show_in(rt, b"P92", b"CLB\x01\0\0\0", 6)?;
-    show_in(rt, b"P92", b"CLB\x02\0\0\x20", 40)?;
-    show_in(rt, b"P92", b"CLB\x01\0\x02\0\0\0\0\0\0\0\0\0", 7)?;
-    show_in(rt, b"P92", b"CLB\x01\0\x02\0\0\0\0\0\0\0\0\0", 6)
+    show_in(rt, "P92", b"CLB\x01\0\0\0", 7)?;
+    show_in(rt, "P92", b"CLB\x01\0\0\0", 6)?;
+    show_in(rt, "P92", b"CLB\x02\0\0\x20", 40)?;
+    show_in(rt, "P92", b"CLB\x01\0\x02\0\0\0\0\0\0\0\0\0", 7)?;
+    show_in(rt, "P92", b"CLB\x01\0\x02\0\0\0\0\0\0\0\0\0", 6)
 }
 
 // Each search starts anew.
 fn show_anew(rt: &impl Print) -> io::Result<()> {
-    show_in(rt, b"P56", &F9, 40)?;
-    show_in(rt, b"P56", &F1, 40)?;
-    show_in(rt, b"P56", &F7, 40)
+    show_in(rt, "P56", &F9, 40)?;
+    show_in(rt, "P56", &F1, 40)?;
+    show_in(rt, "P56", &F7, 40)
 }
 
 // Sums with their signs: with all pairs eligible, with a gap, and the widest apart.
 fn show_signed(rt: &impl Print) -> io::Result<()> {
-    show_in(rt, b"P141", &REBATES, 40)?;
-    show_in(rt, b"P141", &REBATE_WITH_GAP, 40)?;
-    show_in(rt, b"P141", &WIDEST, 40)
+    show_in(rt, "P141", &REBATES, 40)?;
+    show_in(rt, "P141", &REBATE_WITH_GAP, 40)?;
+    show_in(rt, "P141", &WIDEST, 40)
 }
 
-// A search that is long for a plain scan, by corners.
-fn show_long(rt: &impl Print) -> io::Result<()> {
+// A search that is long for a plain scan: by so many bytes of a book, at most 4,231.
+fn show_long(rt: &impl Print, book: &[u8; 4231], length: usize) -> io::Result<()> {
     let mut order = [170u8; 2060];
-    show(rt, b"P57", &long_search(0), &mut order)
+    show(rt, "P57", book.get(..length).unwrap_or(book), &mut order)
 }
 
-fn show_long_with_gap(rt: &impl Print) -> io::Result<()> {
-    let mut order = [170u8; 2060];
-    let book = long_search_with_gap();
-    show(rt, b"P57", &book[..4227], &mut order)
-}
-
-// Where more pairs are missing than ranks are tried with, so that lots are asked: the first two lots have none.
-fn show_long_by_lots(rt: &impl Print) -> io::Result<()> {
-    let mut order = [170u8; 2060];
-    let book = long_search(2);
-    show(rt, b"P57", &book[..3975], &mut order)
+// By corners, without and with a gap; and where more pairs are missing than ranks are tried with, so that lots are asked: the first two
+// lots have none.
+fn show_long_searches(rt: &impl Print) -> io::Result<()> {
+    show_long(rt, &long_search(0), 4231)?;
+    show_long(rt, &long_search_with_gap(), 4227)?;
+    show_long(rt, &long_search(2), 3975)
 }
 
 fn main(rt: HostRuntime) -> io::Result<()> {
@@ -258,7 +208,5 @@ fn main(rt: HostRuntime) -> io::Result<()> {
     show_anew(&rt)?;
     show_signed(&rt)?;
     show_zero_counts(&rt)?;
-    show_long(&rt)?;
-    show_long_with_gap(&rt)?;
-    show_long_by_lots(&rt)
+    show_long_searches(&rt)
 }

@@ -1,10 +1,7 @@
 // Costs with a sign (document 02, request 4). Inside a cost is a natural number, lifted by a base; it gets its sign where it is told.
 #![tactic(auto)]
 
-ghost use Rattle.std.specs.Prelude.{◌≡◌, ◌<◌, true, false, pos, ◌-ℤ◌, int_lt, unsigned_abs};
-ghost use Rattle.std.specs.Int.Signed.{mag};
-ghost use Rattle.std.specs.Int.{w64};
-ghost use Rattle.std.proofs.Common.{of_z};
+ghost use Rattle.std.specs.Prelude.{◌≡◌, ◌<◌, false, nat_lt, pos, ◌-ℤ◌};
 ghost use Rattle.specification.specs.Costs.{held_cost, cost_base, cost_outside, lifted_cost};
 
 use specification::COST_LIMIT;
@@ -20,7 +17,7 @@ pub fn cost_base(version: u16) -> u32
 pub fn lifted(held: u32, base: u32) -> u32
     ensures { result ≡ lifted_cost base held }
 {
-    std::num::wrapping_add_u32(held, base)
+    held.wrapping_add(base)
 }
 
 // Whether a cost is outside the range of a version.
@@ -31,12 +28,20 @@ pub fn outside(held: u32, version: u16) -> bool
     COST_LIMIT + base < lifted(held, base)
 }
 
+// Whether a number is below another. They are compared as signed numbers, which a processor does with several at a time.
+pub fn is_below(a: u32, b: u32) -> bool
+    requires { (a < 2147483648) × (b < 2147483648) }
+    ensures { result ≡ nat_lt a b }
+{
+    a.cast_signed() < b.cast_signed()
+}
+
 // A difference with its sign.
 pub fn difference(a: u64, b: u64) -> i64
     requires { (a < 9223372036854775808) × (b < 9223372036854775808) }
     ensures { result ≡ pos a -ℤ pos b }
 {
-    a as i64 - b as i64
+    a.cast_signed() - b.cast_signed()
 }
 
 // A cost with its sign, of the 32 bits that a readable book holds.
@@ -45,50 +50,5 @@ pub fn held_cost(held: u32, version: u16) -> i64
     ensures { result ≡ held_cost version held }
 {
     let base = cost_base(version);
-    difference(lifted(held, base) as u64, base as u64)
-}
-
-// Whether a number is below zero.
-pub fn below_zero(v: i64) -> bool
-    ensures { result ≡ int_lt v (pos 0) }
-{
-    v < 0
-}
-
-// One less than the size of a number below zero: its bits turned over.
-fn turned(v: i64) -> u64
-    requires { int_lt v (pos 0) ≡ true }
-    ensures { result ≡ mag v }
-{
-    !v as u64
-}
-
-// The size of a number from zero up.
-fn upward(v: i64) -> u64
-    requires { int_lt v (pos 0) ≡ false }
-    ensures { result ≡ mag v }
-{
-    v as u64
-}
-
-// The size of a number, without its sign.
-pub fn size(v: i64) -> u64
-    ensures { result ≡ unsigned_abs v }
-{
-    if below_zero(v) {
-        turned(v) + 1
-    } else {
-        upward(v)
-    }
-}
-
-// Its 64 bits, two's complement.
-pub fn bits(v: i64) -> u64
-    ensures { result ≡ of_z w64 v }
-{
-    if below_zero(v) {
-        u64::MAX - turned(v)
-    } else {
-        upward(v)
-    }
+    i64::from(lifted(held, base)) - i64::from(base)
 }

@@ -1,11 +1,12 @@
 -- Laws of filling the table of slacks from a book's rows. The costs of a lot stand behind its word, one for each set bit, so the byte of a
 -- cost grows by four with each slack that is entered; clear bits are passed over, since the table is 0 there (`Reached`). With all lots
 -- entered the table has the book's slacks (`slack_here`) and is as it is to be (`filled_slacks`, `filled_words`).
-use Rattle.std.proofs.Common.{◌≡◌, ℕ, suc, ◌+◌, ◌-◌, ◌*◌, ◌/◌, ◌%◌, ◌^◌, ◌<◌, ◌≤◌, true, false, List, length, set, replicate, sym, ap, ◌∙◌, true≢false, lt_of_lt_of_le, mod-eq_of_lt, arith, length-set, get_or-set_other, get_or-set_same, pow_mono, rules, below_more}
+use Rattle.std.proofs.Common.{◌≡◌, ℕ, suc, ◌+◌, ◌-◌, ◌*◌, ◌/◌, ◌%◌, ◌^◌, ◌<◌, ◌≤◌, true, false, List, ◌++◌, length, get_or, take, drop, set, replicate, sym, ap, ◌∙◌, true≢false, lt_of_lt_of_le, mod-eq_of_lt, arith, length-append, length-drop, length-set, get_or-set_other, get_or-set_same, pow_mono, rules, below_more}
 use mathlib.Core.Logic.{by_cases}
 use native.Mathlib.Decide.{dec_lt}
 use lib.Count.{ones}
 use lib.ListN.{length-replicate}
+use Rattle.std.proofs.lemmas.List.{length-take-le, get_or_append_left, get_or-append_right, get_or-drop}
 use Rattle.specification.specs.Bytes.{u32_at}
 use Rattle.specification.specs.Costs.{cost_top}
 use Rattle.specification.specs.Book.{bit, row_word, row_cost, book_version, book_lots, book_calls, row_at, row_start, cost_start}
@@ -37,6 +38,17 @@ module _ {Holds : ℕ → ℕ → Type 0} {before : List ℕ} where
       ahead = λ y l. get_or-set_other after x y v 0 (λ e. omega arith) ∙ f.ahead y (omega arith);
       long = length-set after x v ∙ f.long;
     }
+
+  -- a list whose first entries were filled
+  pub filled_front : {n : ℕ} {front : List ℕ} → n ≤ length before → Filled Holds n (take n before) front → Filled Holds n before (front ++ drop n before)
+  filled_front {n} {front} few f =
+      let long : length front ≡ n = f.long ∙ length-take-le n before few in
+      record {
+        passed = λ y l. rw (get_or_append_left front (drop n before) 0 y (omega arith)) (f.passed y l);
+        ahead = λ y h. get_or-append_right front (drop n before) n y 0 long h ∙ get_or-drop n before (y - n) 0
+            ∙ ap (λ x. get_or before x 0) (omega arith);
+        long = omega (arith, long, length-append front (drop n before), length-drop n before);
+      }
 
 -- the number of a pair has the lot and the call
 numbered : (i j : ℕ) → j < 32 → ((32 * i + j) / 32 ≡ i) × ((32 * i + j) % 32 ≡ j)

@@ -1,6 +1,7 @@
 -- The finder's turns: from the eligible pairs, by one pair taken at a time, to its answer. The invariant is transport's `Loop` at a set of
 -- what remains, beside the bytes of what is taken.
 use Rattle.std.proofs.Common.{◌≡◌, ℕ, suc, ◌+◌, ◌-◌, ◌*◌, ◌<◌, ◌≤◌, Bool, List, [], ◌∷◌, ◌++◌, length, take, set, sym, refl, ap, ◌∙◌, subst, append_assoc, add-one, arith, length-append, length-set, take-suc-set}
+use Rattle.std.proofs.Common.{Some, None}
 use mathlib.Core.Option.{some, none}
 use Rattle.transport.specs.Problem.{Problem}
 use Rattle.transport.specs.Greedy.{Pair}
@@ -9,7 +10,6 @@ use Rattle.transport.proofs.Laws.Sets.{Agree}
 use Rattle.transport.proofs.Finder.Loop.{Loop, loop_start, loop_take, loop_stop, loop_done, loop_same}
 use Rattle.specification.specs.OrderFile.{pair_bytes}
 use Rattle.slacks.specs.Found.{Finds}
-use Rattle.slacks.specs.declared.Search.TheVariants.{Found, Nothing}
 
 -- two bytes more
 pub pair_put : (bytes : List ℕ) (k a b : ℕ) → 2 * k + 1 < length bytes
@@ -52,15 +52,15 @@ module _ {P : Problem} {rest : ℕ → ℕ → Bool} {pairs : List ℕ} {count t
   more_left h = let e : g.left ≡ suc (g.left - 1) = omega (arith, g.whole) in subst (Loop P g.taken rest) e g.loop
 
   -- none is free
-  pub going_stop : count < total → next P rest ≡ none → Finds (find P) Nothing pairs
+  pub going_stop : count < total → next P rest ≡ none → Finds (find P) None pairs
   going_stop h e = rw (loop_stop P g.taken rest (g.left - 1) (more_left h) e) refl
 
   -- none is left
-  pub going_done : total ≤ count → Finds (find P) (Found count) pairs
+  pub going_done : total ≤ count → Finds (find P) (Some count) pairs
   going_done h =
       let e : g.left ≡ 0 = omega (arith, g.whole) in
       rw (loop_done P g.taken rest (subst (Loop P g.taken rest) e g.loop))
-      (ap Found (sym g.counted), ap (λ (k : ℕ). take (2 * k) pairs) g.counted ∙ g.bytes)
+      (ap Some (sym g.counted), ap (λ (k : ℕ). take (2 * k) pairs) g.counted ∙ g.bytes)
 
   -- a pair is taken
   pub going_next : count < total → (p : Pair) → next P rest ≡ some p → (rest' : ℕ → ℕ → Bool) → Agree P (without rest p) rest'

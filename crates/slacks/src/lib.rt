@@ -5,7 +5,6 @@
 pub mod filling;
 
 ghost use Rattle.std.specs.Prelude.{◌≡◌, ◌+◌, ◌*◌, ◌<◌, ◌≤◌, [], ◌∷◌, ◌++◌, length, take};
-ghost use Rattle.book.specs.Table.{entry};
 
 use specification::{COST_LIMIT, Call, Lot};
 
@@ -21,28 +20,11 @@ pub const SLACK_OF_ZERO: u32 = COST_LIMIT + 1;
 // The highest slack, that of the lowest cost.
 pub const SLACK_MOST: u32 = COST_LIMIT + SLACK_OF_ZERO;
 
-// How many pairs the order has, or that there is none.
-#[derive(Clone, Copy)]
-pub enum Search {
-    Found(usize),
-    Nothing,
-}
-
-// What a table of `SIDE` rows holds for a lot and a call.
-pub fn entry_at(table: &[u32; PAIRS], lot: Lot, call: Call) -> u32
-    requires { (lot.0 < 32) × (call.0 < 32) }
-    ensures { result ≡ entry table.now lot.0 call.0 }
-{
-    table[SIDE * lot.0 + call.0]
-}
-
 // The pair becomes the next of the pairs, two bytes each.
 pub fn put(pairs: &mut [u8], count: usize, lot: Lot, call: Call)
     requires { (lot.0 < 32) × (call.0 < 32) × (count < 1024) × (2048 ≤ length pairs.old) }
     ensures { take (2 * (count + 1)) pairs.new ≡ take (2 * count) pairs.old ++ (lot.0 ∷ call.0 ∷ []) }
 {
-    let i = lot.0;
-    let j = call.0;
-    pairs[2 * count] = i as u8;
-    pairs[2 * count + 1] = j as u8;
+    pairs[2 * count] = lot.0 as u8;
+    pairs[2 * count + 1] = call.0 as u8;
 }

@@ -1,18 +1,18 @@
--- Replies in document 01's own terms, and what each case of an answer's enum says in them. "When an answer is an enum, a definition
--- states this paper's number and values for each of its cases, and the promises use this definition": `stated`, `stated_counts` and so on.
-use Rattle.std.specs.Prelude.{◌≡◌, List, [], ◌∷◌, Bool, true, false, ℕ, ℤ}
+-- Replies in document 01's own terms, and what an entry point's answer, a `Result`, says in them. "When an answer is an enum, a definition
+-- states this paper's number and values for each of its cases, and the promises use this definition": `stated`, `told` and `stated_placed`.
+use Rattle.std.specs.Prelude.{◌≡◌, List, [], ◌∷◌, ◌++◌, flat_map, Bool, true, false, ℕ, ℤ, Result, Ok, Err}
+use Rattle.std.specs.Fmt.{decimal}
 use Rattle.specification.specs.declared.Refusal.{Refusal}
 use Rattle.specification.specs.declared.Refusal.TheVariants as refusal
-use Rattle.specification.specs.declared.Counts.{Counts}
-use Rattle.specification.specs.declared.Counts.TheVariants as counts
-use Rattle.specification.specs.declared.Checked.{Checked}
-use Rattle.specification.specs.declared.Checked.TheVariants as checked
 use Rattle.specification.specs.declared.Placed.{Placed}
 use Rattle.specification.specs.declared.Placed.TheVariants as placed
-use Rattle.specification.specs.declared.Found.{Found}
-use Rattle.specification.specs.declared.Found.TheVariants as found
 use Rattle.specification.specs.declared.Quadruple.{Quadruple}
 use Rattle.specification.specs.declared.Quadruple.TheVariants as quadruple
+use Rattle.specification.specs.declared.Counts.{Counts}
+
+-- n and m
+abbrev pub Size : Type 0
+Size = Counts
 
 -- a value, or a refusal: its number in the table under "Refused", and the values returned with it
 pub data Reply (A : Type 0) : Type 0 where
@@ -68,6 +68,10 @@ stated refusal.NoIdleCall = line 19 []
 stated refusal.AboveEight = line 20 []
 stated refusal.ReserveExceedsLot = line 21 []
 
+-- what is printed of a cause: its number, and each value after a space, in decimal
+abbrev pub cause_text : Refusal → List ℕ
+cause_text r = decimal (stated r).number ++ flat_map (λ v. 32 ∷ decimal v) (stated r).values
+
 -- refused for this cause
 abbrev pub refused : {A : Type 0} → Refusal → Reply A
 refused r = refuses (stated r).number (stated r).values
@@ -75,11 +79,6 @@ refused r = refuses (stated r).number (stated r).values
 -- it is never refused by this number
 abbrev pub Never : ℕ → {A : Type 0} → Reply A → Type 0
 Never k r = (vs : List ℕ) → r ≡ refuses k vs → ⊥
-
--- n and m
-pub record Size : Type 0 where
-  pub lots : ℕ
-  pub calls : ℕ
 
 -- the "three verdicts" of a run (document 02, request 1)
 pub data Verdict : Type 0 where
@@ -91,27 +90,23 @@ pub record Outcome : Type 0 where
   pub units : ℕ
   pub cost : ℤ
 
--- reading a book, or amounts with their book, replies n and m
-abbrev pub stated_counts : Counts → Reply Size
-stated_counts (counts.Are n m) = gives (record { lots = n; calls = m })
-stated_counts (counts.Refused r) = refused r
+-- a value, as f states it, or the refusal
+abbrev pub told_as : {A B : Type 0} → (A → B) → Result A Refusal → Reply B
+told_as f (Ok a) = gives (f a)
+told_as f (Err r) = refused r
 
--- an order that passes gets its count of pairs as the reply
-abbrev pub stated_checked : Checked → Reply ℕ
-stated_checked (checked.Passes n) = gives n
-stated_checked (checked.Refused r) = refused r
+-- n and m, an order's count of pairs, a file's length, or that a part of a reading passes: the value itself
+abbrev pub told : {A : Type 0} → Result A Refusal → Reply A
+told = told_as (λ a. a)
 
 -- Full (units, cost), Covered (units, cost) or Short (units, cost)
-abbrev pub stated_placed : Placed → Reply Outcome
-stated_placed (placed.Full u c) = gives (record { verdict = full; units = u; cost = c })
-stated_placed (placed.Covered u c) = gives (record { verdict = covered; units = u; cost = c })
-stated_placed (placed.Short u c) = gives (record { verdict = short; units = u; cost = c })
-stated_placed (placed.Refused r) = refused r
+abbrev pub outcome_of : Placed → Outcome
+outcome_of (placed.Full u c) = record { verdict = full; units = u; cost = c }
+outcome_of (placed.Covered u c) = record { verdict = covered; units = u; cost = c }
+outcome_of (placed.Short u c) = record { verdict = short; units = u; cost = c }
 
--- the finder replies with the file's length
-abbrev pub stated_found : Found → Reply ℕ
-stated_found (found.Length n) = gives n
-stated_found (found.Refused r) = refused r
+abbrev pub stated_placed : Result Placed Refusal → Reply Outcome
+stated_placed = told_as outcome_of
 
 -- the test of (i, j) with lot k and call l passes, or is the check's 11 or 12 (document 02, request 3)
 abbrev pub stated_quadruple : ℕ → ℕ → ℕ → ℕ → Quadruple → Reply (Unit {0})

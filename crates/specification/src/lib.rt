@@ -1,5 +1,12 @@
-// The words of document 01 as types: lot and call numbers, the refusals, and the answer of each entry point.
+// The words of document 01 as types: lot and call numbers, the refusals, and what the entry points answer where they refuse nothing. An entry
+// point's answer is a `Result` of that and the refusal.
 #![tactic(auto)]
+
+ghost use Rattle.std.specs.Prelude.{◌≡◌};
+ghost use Rattle.specification.specs.Reply.{stated};
+
+use std::error::Error;
+use std::fmt;
 
 // "Costs are .. 0 to 1,000,000" and "Amounts are .. 0 to 1,000,000,000" (Words): the highest of each. In version 2 of a book costs are
 // "from -1,000,000 to 1,000,000" (document 02, request 4).
@@ -8,16 +15,41 @@ pub const COST_LIMIT: u32 = 1_000_000;
 pub const AMOUNT_LIMIT: u32 = 1_000_000_000;
 
 // "A lot is known by its lot number .. counted from 0" (Words).
-#[derive(Clone, Copy)]
+#[derive(Clone, Copy, Debug, PartialEq, Eq)]
 pub struct Lot(pub usize);
 
 // "and a call by its call number" (Words).
-#[derive(Clone, Copy)]
+#[derive(Clone, Copy, Debug, PartialEq, Eq)]
 pub struct Call(pub usize);
+
+// By their numbers.
+impl fmt::Display for Lot {
+    ghost use Rattle.std.specs.Prelude.{Some};
+    ghost use Rattle.std.specs.Fmt.{decimal};
+
+    ghost output = { λ lot. Some (decimal lot.0) };
+
+    fn fmt<W: fmt::Write>(&self, f: &mut fmt::Formatter<W>) -> fmt::Result {
+        let lot = self.0;
+        write!(f, "{lot}")
+    }
+}
+
+impl fmt::Display for Call {
+    ghost use Rattle.std.specs.Prelude.{Some};
+    ghost use Rattle.std.specs.Fmt.{decimal};
+
+    ghost output = { λ call. Some (decimal call.0) };
+
+    fn fmt<W: fmt::Write>(&self, f: &mut fmt::Formatter<W>) -> fmt::Result {
+        let call = self.0;
+        write!(f, "{call}")
+    }
+}
 
 // The causes of the table under "Refused", in its order, with the values that it returns beside the number; "These and all later new numbers
 // join 01's table, return the number alone" (document 02, request 2).
-#[derive(Clone, Copy)]
+#[derive(Clone, Copy, Debug, PartialEq, Eq, Drop)]
 pub enum Refusal {
     // 1: file under 7 bytes
     UnderSeven,
@@ -63,40 +95,82 @@ pub enum Refusal {
     ReserveExceedsLot,
 }
 
-// "Reading a book, or amounts with their book, replies n and m" (The three files).
-#[derive(Clone, Copy)]
-pub enum Counts {
-    Are(usize, usize),
-    Refused(Refusal),
+impl Refusal {
+    // The number that the table under "Refused" gives a cause.
+    pub fn number(self) -> u32
+        ensures { result ≡ (stated self).number }
+    {
+        match self {
+            Refusal::UnderSeven => 1,
+            Refusal::MarkDiffers => 2,
+            Refusal::VersionNotOne => 3,
+            Refusal::CountOutside => 4,
+            Refusal::BitOutside(_) => 5,
+            Refusal::EndsEarly => 6,
+            Refusal::CostTooHigh(_, _) => 7,
+            Refusal::BytesAfter => 8,
+            Refusal::PairNotEligible(_) => 9,
+            Refusal::PairMetBefore(_) => 10,
+            Refusal::CrossNotEligible(_, _, _, _) => 11,
+            Refusal::CrossSumTooHigh(_, _, _, _) => 12,
+            Refusal::NoOrder => 13,
+            Refusal::PairMissing => 14,
+            Refusal::CountsDiffer => 15,
+            Refusal::AmountTooHigh => 16,
+            Refusal::BufferTooShort => 17,
+            Refusal::CallsExceedLots => 18,
+            Refusal::NoIdleCall => 19,
+            Refusal::AboveEight => 20,
+            Refusal::ReserveExceedsLot => 21,
+        }
+    }
 }
 
-// "An order that passes gets its count of pairs as the reply" (Checking an order).
-#[derive(Clone, Copy)]
-pub enum Checked {
-    Passes(usize),
-    Refused(Refusal),
+// The number, and the values that the table returns with it.
+impl fmt::Display for Refusal {
+    ghost use Rattle.std.specs.Prelude.{Some};
+    ghost use Rattle.specification.specs.Reply.{cause_text};
+
+    ghost output = { λ cause. Some (cause_text cause) };
+
+    fn fmt<W: fmt::Write>(&self, f: &mut fmt::Formatter<W>) -> fmt::Result {
+        let number = self.number();
+        match *self {
+            Refusal::BitOutside(i) => write!(f, "{number} {i}"),
+            Refusal::CostTooHigh(i, j) => write!(f, "{number} {i} {j}"),
+            Refusal::PairNotEligible(place) | Refusal::PairMetBefore(place) => {
+                write!(f, "{number} {place}")
+            }
+            Refusal::CrossNotEligible(i, j, k, l) | Refusal::CrossSumTooHigh(i, j, k, l) => {
+                write!(f, "{number} {i} {j} {k} {l}")
+            }
+            _ => write!(f, "{number}"),
+        }
+    }
+}
+
+impl Error for Refusal {}
+
+// "Reading a book, or amounts with their book, replies n and m" (The three files).
+#[derive(Clone, Copy, Debug, PartialEq, Eq)]
+pub struct Counts {
+    pub lots: usize,
+    pub calls: usize,
 }
 
 // "The answer is Full (units, cost) if nothing is left in any lot or call" (Running an order), "Covered (units, cost) when every call is met
 // and some lot has units left; Short when a call still lacks units" (document 02, request 1). "The cost of one pair and the cost of a run
 // become signed for every caller" (request 4).
-#[derive(Clone, Copy)]
+#[derive(Clone, Copy, Debug, PartialEq, Eq)]
 pub enum Placed {
     Full(u64, i64),
     Covered(u64, i64),
     Short(u64, i64),
-    Refused(Refusal),
-}
-
-// The finder "replies with the file's length" (Finding an order).
-#[derive(Clone, Copy)]
-pub enum Found {
-    Length(usize),
-    Refused(Refusal),
 }
 
 // What the test of one quadruple answers: "whether (k, l) is eligible and the cost sums are as the check asks" (document 02, request 3).
-#[derive(Clone, Copy)]
+// An enum of its own: the request's promise names its three answers.
+#[derive(Clone, Copy, Debug, PartialEq, Eq)]
 pub enum Quadruple {
     Holds,
     NotEligible,

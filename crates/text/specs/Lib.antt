@@ -1,2 +1,3 @@
 -- What the functions of the printed text promise.
-pub mod Rendering  -- appending to a text in a buffer, and rendering an answer
+pub mod Lengths  -- how many bytes each piece has at most
+pub mod Rendering  -- the room in a text, and rendering an answer

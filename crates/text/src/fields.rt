@@ -1,91 +1,123 @@
-// The pieces of a line: words, numbers in decimal, and the fields that they make. Each function appends one piece to a text that stands at
-// the front of a lent buffer, and replies how long the text then is.
-ghost use Rattle.std.specs.Prelude.{[], ◌∷◌};
-ghost use Rattle.specification.specs.Text.{decimal, decimalℤ, line};
-ghost use Rattle.text.specs.Rendering.{Appended, Room};
+// A text in an array, seen as the list of its bytes, and the pieces of a line that are appended to it: words, and numbers in decimal.
+ghost use Rattle.std.specs.Prelude.{◌≡◌, ◌-◌, ◌≤◌, [], ◌∷◌, ◌++◌, length, replicate};
+ghost use Rattle.specification.specs.Text.{decimal, decimalℤ};
+ghost use Rattle.text.specs.Lengths.{text_most};
+ghost use Rattle.text.specs.Rendering.{HasRoom};
 
-// One byte.
-fn put(out: &mut [u8], at: usize, byte: u8) -> usize
-    requires { Room out.old at (byte ∷ []) }
-    ensures { Appended at out.old (byte ∷ []) result out.new }
-{
-    out[at] = byte;
-    at + 1
+use std::marker::Model;
+
+// The bytes of the longest text: 50 for its first line, and 17 for the line of each of 1,024 pairs.
+pub const TEXT_MOST: usize = 50 + 17 * 1024;
+
+// A text: the first `len` bytes. After it all are 0.
+#[derive(Clone, Copy)]
+pub struct Text {
+    bytes: [u8; TEXT_MOST],
+    len: usize,
 }
 
-// A byte string.
-pub fn word(out: &mut [u8], at: usize, bytes: &[u8]) -> usize
-    requires { Room out.old at bytes.now }
-    ensures { Appended at out.old bytes.now result out.new }
-{
-    let mut next = at;
-    let mut k: usize = 0;
-    while k < bytes.len() {
-        next = put(out, next, bytes[k]);
-        k += 1;
+impl Model for Text {
+    ghost use Rattle.std.specs.Prelude.{◌≡◌, List, ℕ, ◌++◌, ◌-◌, ◌≤◌, length, take, drop, replicate};
+    ghost use Rattle.text.specs.Lengths.{text_most};
+    ghost use Rattle.std.proofs.Common.{arith, take-append-drop, length-take-le};
+
+    ghost Value = { List ℕ };
+
+    ghost view = { λ t. take t.len t.bytes };
+
+    ghost invariant = { λ t. (t.len ≤ text_most) × (length t.bytes ≡ text_most) × (drop t.len t.bytes ≡ replicate (text_most - t.len) 0) };
+
+    ghost inverse = { λ v. record { bytes = v ++ replicate (text_most - length v) 0; len = length v } };
+
+    ghost inverse_ok = { λ t h i. record {
+      bytes = (let taken : length (take t.len t.bytes) ≡ t.len = length-take-le t.len t.bytes (omega (arith, h.0, h.1)) in
+          let back : take t.len t.bytes ++ replicate (text_most - length (take t.len t.bytes)) 0 ≡ t.bytes = rw (taken, ← h.2) (take-append-drop t.len t.bytes) in
+          back i);
+      len = length-take-le t.len t.bytes (omega (arith, h.0, h.1)) i;
+    } };
+}
+
+impl Text {
+    // No bytes.
+    pub(crate) fn new() -> Text
+        ensures { result ≡ [] }
+    {
+        Text {
+            bytes: [0; TEXT_MOST],
+            len: 0,
+        }
     }
-    next
-}
 
-// A number in decimal: the digits of its tenth, and then its last digit.
-pub fn number(out: &mut [u8], at: usize, n: u64) -> usize
-    requires { Room out.old at (decimal n) }
-    ensures { Appended at out.old (decimal n) result out.new }
-{
-    if n < 10 {
-        return put(out, at, 48 + n as u8);
+    // Its bytes, as a slice: at most those of the longest text.
+    pub fn as_bytes(&self) -> &[u8]
+        ensures text { result.now ≡ self.now }
+        ensures within { length result.now ≤ text_most }
+    {
+        &self.as_array()[..self.len]
     }
-    let next = number(out, at, n / 10);
-    put(out, next, 48 + (n % 10) as u8)
-}
 
-// A number with a minus where it is below zero.
-fn signed_number(out: &mut [u8], at: usize, v: i64) -> usize
-    requires { Room out.old at (decimalℤ v) }
-    ensures { Appended at out.old (decimalℤ v) result out.new }
-{
-    let size = signed::size(v);
-    if signed::below_zero(v) {
-        let next = put(out, at, b'-');
-        return number(out, next, size);
+    // The whole array: its bytes, and zeros after them.
+    pub fn as_array(&self) -> &[u8; TEXT_MOST]
+        ensures { result.now ≡ self.now ++ replicate (text_most - length self.now) 0 }
+    {
+        &self.bytes
     }
-    number(out, at, size)
-}
 
-// A space and a number: a field after the first.
-fn field(out: &mut [u8], at: usize, n: u64) -> usize
-    requires { Room out.old at (32 ∷ decimal n) }
-    ensures { Appended at out.old (32 ∷ decimal n) result out.new }
-{
-    let next = put(out, at, b' ');
-    number(out, next, n)
-}
+    // One byte.
+    pub(crate) fn put(&mut self, byte: u8)
+        requires { HasRoom self.old (byte ∷ []) }
+        ensures { self.new ≡ self.old ++ byte ∷ [] }
+    {
+        self.bytes[self.len] = byte;
+        self.len += 1;
+    }
 
-// A space, a number and a newline: a line's last field.
-pub fn last_field(out: &mut [u8], at: usize, n: u64) -> usize
-    requires { Room out.old at (32 ∷ line (decimal n) []) }
-    ensures { Appended at out.old (32 ∷ line (decimal n) []) result out.new }
-{
-    let next = field(out, at, n);
-    put(out, next, b'\n')
-}
+    // A byte string.
+    pub(crate) fn word(&mut self, word: &[u8])
+        requires { HasRoom self.old word.now }
+        ensures { self.new ≡ self.old ++ word.now }
+    {
+        let end = self.len + word.len();
+        self.bytes[self.len..end].copy_from_slice(word);
+        self.len = end;
+    }
 
-// Two numbers after the first field: the rest of a line of three.
-pub fn last_two(out: &mut [u8], at: usize, a: u64, b: u64) -> usize
-    requires { Room out.old at (32 ∷ line (decimal a) (decimal b ∷ [])) }
-    ensures { Appended at out.old (32 ∷ line (decimal a) (decimal b ∷ [])) result out.new }
-{
-    let next = field(out, at, a);
-    last_field(out, next, b)
-}
+    // A number in decimal: the digits of its tenth, and then its last digit. `write!` would answer that a text may be full, which this has room for.
+    pub(crate) fn number(&mut self, n: u64)
+        requires { HasRoom self.old (decimal n) }
+        ensures { self.new ≡ self.old ++ decimal n }
+    {
+        if 10 <= n {
+            self.number(n / 10);
+        }
+        self.put(b'0' + (n % 10) as u8);
+    }
 
-// The rest of the first line: units and cost.
-pub fn units_and_cost(out: &mut [u8], at: usize, units: u64, cost: i64) -> usize
-    requires { Room out.old at (32 ∷ line (decimal units) (decimalℤ cost ∷ [])) }
-    ensures { Appended at out.old (32 ∷ line (decimal units) (decimalℤ cost ∷ [])) result out.new }
-{
-    let next = field(out, at, units);
-    let space = put(out, next, b' ');
-    let end = signed_number(out, space, cost);
-    put(out, end, b'\n')
+    // A number with a minus where it is below zero.
+    pub(crate) fn signed_number(&mut self, v: i64)
+        requires { HasRoom self.old (decimalℤ v) }
+        ensures { self.new ≡ self.old ++ decimalℤ v }
+    {
+        if v < 0 {
+            self.put(b'-');
+        }
+        self.number(v.unsigned_abs());
+    }
+
+    // A space and a number: a field after the first.
+    pub(crate) fn field(&mut self, n: u64)
+        requires { HasRoom self.old (32 ∷ decimal n) }
+        ensures { self.new ≡ self.old ++ 32 ∷ decimal n }
+    {
+        self.put(b' ');
+        self.number(n);
+    }
+
+    // A newline.
+    pub(crate) fn end_line(&mut self)
+        requires { HasRoom self.old (10 ∷ []) }
+        ensures { self.new ≡ self.old ++ 10 ∷ [] }
+    {
+        self.put(b'\n');
+    }
 }

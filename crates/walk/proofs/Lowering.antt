@@ -14,17 +14,12 @@ use Rattle.specification.specs.Costs.{cost_top}
 use Rattle.specification.specs.Book.{bit}
 use Rattle.book.specs.Table.{entry, problem_by, Tabled}
 use Rattle.words.proofs.Sets.{bit_none, bit_or_lem, bit_and_lem, bit_single}
-use Rattle.walk.specs.Gaps.{table_gap, Capped, GapLowered, Lowered}
+use Rattle.walk.specs.Gaps.{table_gap, GapLowered, Lowered}
 use Rattle.walk.specs.Walk.{PairEntered}
 use Rattle.walk.proofs.Eligibles.{admitted_in}
-use Rattle.walk.proofs.Arrays.{entry_stored, entry_kept, capped_set}
+use Rattle.walk.proofs.Arrays.{entry_stored, entry_kept}
 
--- the lesser by a test, and the test the other way round
-pub lesser_is : (a b : ℕ) → cond (ltb a b) a b ≡ min a b
-lesser_is a b = by_cases (dec_lt a b)
-    (λ h. rw (lt-ltb a b h) (omega arith))
-    (λ h. rw (le-ltb a b (omega arith)) (omega arith))
-
+-- the test of a lesser gap, the other way round
 not_under : (a b : ℕ) → not (ltb a b) ≡ leb b a
 not_under a b = by_cases (dec_lt a b)
     (λ h. rw (lt-ltb a b h, lt-leb b a h))
@@ -32,16 +27,15 @@ not_under a b = by_cases (dec_lt a b)
 
 -- ---- one call after another
 module _ (gap : ℕ → ℕ) (some : ℕ → Bool) (j : ℕ) (least : List ℕ) where
-  pub lowered_none : Capped least → ((l : ℕ) → l < 32 → some l ≡ false) → Lowered gap some j least 0 least
-  lowered_none capped none = record {
-    capped = capped;
+  pub lowered_none : ((l : ℕ) → l < 32 → some l ≡ false) → Lowered gap some j least 0 least
+  lowered_none none = record {
     lowers = λ l hl. rw (none l hl);
     others = λ a l ha hl other. refl;
     says = λ l hl. rw (none l hl) (bit_none l);
   }
 
   -- call l, over which nothing is lowered yet, is one more
-  module _ (hj : j < 32) (l : ℕ) (hl : l < 32) (not_yet : some l ≡ false) (fits : ℕ) (before : List ℕ)
+  module _ (hj : j < 32) (l : ℕ) (hl : l < 32) (not_yet : some l ≡ false) (fits : ℕ) (before : List ℕ) (long : length before ≡ 1024)
       (so_far : Lowered gap some j least fits before) (single new r : ℕ) (after : List ℕ) (single_is : single ≡ 2 ^ l) (New-is : new ≡ gap l)
       (by_code : GapLowered single j l new before r after) (more : ℕ → Bool) (more_is : (k : ℕ) → k < 32 → more k ≡ (some k || eqb k l)) where
     done : GapLowered (2 ^ l) j l (gap l) before r after
@@ -66,16 +60,12 @@ module _ (gap : ℕ → ℕ) (some : ℕ → Bool) (j : ℕ) (least : List ℕ) 
         ∙ ap (λ (t : Bool). t && eqb k l) (not_under (entry least j l) (gap l)))
 
     pub lowered_more : Lowered gap more j least (bit_or fits r) after
-    lowered_more = record { capped = capped; lowers = lowers; others = others; says = says }
+    lowered_more = record { lowers = lowers; others = others; says = says }
       where
-        capped : Capped after
-        capped = rw done.lowers (capped_set so_far.capped (32 * j + l) (min (entry before j l) (gap l)) (omega arith)
-            (omega (arith, so_far.capped.low (32 * j + l) (omega arith))))
-
         lowers : (k : ℕ) → k < 32 → entry after j k ≡ cond (more k) (min (entry least j k) (gap k)) (entry least j k)
         lowers k hk = by_cases (ℕ_discrete k l)
             (λ (e : k ≡ l). rw (e, more_here, done.lowers, ← old_is)
-            (entry_stored before j l (min (entry before j l) (gap l)) hj hl so_far.capped.long))
+            (entry_stored before j l (min (entry before j l) (gap l)) hj hl long))
             (λ ne. rw (more_other k hk ne, done.lowers)
             (entry_kept before j l (min (entry before j l) (gap l)) hj hl j k hj hk (λ _ e. ne e) ∙ so_far.lowers k hk))
 
@@ -93,7 +83,6 @@ module _ (gap : ℕ → ℕ) (some : ℕ → Bool) (j : ℕ) (least : List ℕ) 
   pub lowered_same : (other : ℕ → Bool) → ((l : ℕ) → l < 32 → some l ≡ other l) → (r : ℕ) (after : List ℕ)
       → Lowered gap some j least r after → Lowered gap other j least r after
   lowered_same other same r after done = record {
-    capped = done.capped;
     lowers = λ l hl. rw (← same l hl) (done.lowers l hl);
     others = done.others;
     says = λ l hl. rw (← same l hl) (done.says l hl);

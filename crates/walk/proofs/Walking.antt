@@ -1,6 +1,6 @@
 -- One turn of the walk. The pairs in play are those from the turn's place on, and the words have their calls. The turn lowers the least gaps
 -- to those of the pairs from its place on, and says whether its pair is free against them.
-use Rattle.std.proofs.Common.{◌≡◌, ℕ, ◌+◌, ◌-◌, ◌*◌, ◌^◌, ◌<◌, ◌≤◌, Bool, true, false, cond, not, ◌&&◌, ◌||◌, T, eqb, leb, List, ◌∷◌, length, get_or, set, replicate, sym, refl, ap, ◌∙◌, subst, ap₂, arith, T_not, length-set, get_or-set_other, get_or-set_same, lt-ltb, eq-eqb}
+use Rattle.std.proofs.Common.{◌≡◌, ◌≢◌, ℕ, ◌+◌, ◌-◌, ◌*◌, ◌^◌, ◌<◌, ◌≤◌, Bool, true, false, cond, not, ◌&&◌, ◌||◌, T, eqb, leb, Option, None, Some, List, ◌∷◌, length, get_or, set, replicate, sym, refl, ap, ◌∙◌, subst, ap₂, arith, T_not, length-set, get_or-set_other, get_or-set_same, lt-ltb, eq-eqb}
 use mathlib.Core.Logic.{by_cases}
 use mathlib.Core.Bool.{or-false}
 use native.Mathlib.Decide.{ℕ_discrete}
@@ -24,26 +24,31 @@ use Rattle.specification.specs.Book.{bit}
 use Rattle.book.specs.Table.{entry, problem_by}
 use Rattle.words.proofs.Sets.{bit_none, bit_or_lem, bit_and_lem, bit_single, bit_all, within_exactly}
 use Rattle.walk.specs.Places.{order_pair, rest}
-use Rattle.walk.specs.Gaps.{gap_top, Capped}
-use Rattle.walk.specs.Walk.{Walkable, PairEntered, free_at, LowestNotFree}
+use Rattle.walk.specs.Gaps.{gap_top}
+use Rattle.walk.specs.Walk.{Walkable, PairEntered, free_at, LowestNotFree, LowestFrom}
 use Rattle.walk.proofs.Eligibles.{bounded}
-use Rattle.walk.proofs.Arrays.{capped_all}
 use Rattle.walk.proofs.Lowering.{Keeps, keeps_turn, fits_is}
 use Rattle.walk.proofs.Placing.{rest_more, rest_none, lists_from}
 
 -- the lowest place that fails, with one place more in front
-module _ {P : Problem} {order : List ℕ} {count p : ℕ} where
-  lowest_before : {next r : ℕ} → next ≡ p + 1 → free_at P order count p ≡ true → LowestNotFree P order count next r
+module _ (P : Problem) (order : List ℕ) (count p : ℕ) where
+  before : {next r : ℕ} → next ≡ p + 1 → free_at P order count p ≡ true → LowestNotFree P order count next r
       → LowestNotFree P order count p r
-  lowest_before next_is e lowest = record {
+  before next_is e lowest = record {
     within = lowest.within;
     free_before = λ q low high. by_cases (ℕ_discrete q p) (λ (same : q ≡ p). rw same e)
         (λ other. lowest.free_before q (omega arith) high);
     not_free = lowest.not_free;
   }
 
-  lowest_here : p < count → free_at P order count p ≡ false → LowestNotFree P order count p p
-  lowest_here h e = record { within = omega arith; free_before = λ q low high. absurd (omega arith); not_free = λ _. e }
+  lowest_before : (next : ℕ) (r : Option ℕ) → next ≡ p + 1 → free_at P order count p ≡ true → LowestFrom P order count next r
+      → LowestFrom P order count p r
+  lowest_before next None next_is e lowest = before next_is e lowest
+  lowest_before next (Some q) next_is e lowest = (lowest.0, before next_is e lowest.1)
+
+  lowest_here : p < count → free_at P order count p ≡ false → LowestFrom P order count p (Some p)
+  lowest_here h e =
+      (h, record { within = omega arith; free_before = λ q low high. absurd (omega arith); not_free = λ _. e })
 
 module _ (book table starts order : List ℕ) (count n m : ℕ) (w : Walkable book table starts order count m) (few_lots : n ≤ 32)
     (each_once : OrderOf (problem_by book table n m) (rest order count 0)) (p : ℕ) (h : p < count) where
@@ -99,11 +104,21 @@ module _ (book table starts order : List ℕ) (count n m : ℕ) (w : Walkable bo
         (λ t. rw (T_false (bit marked l) t)))
         ∙ turn_free
 
+-- a pair of the order is one of the table's
+pub pair_in : {book table starts order : List ℕ} {count m : ℕ} (w : Walkable book table starts order count m) (p : ℕ) → p < count → {i j : ℕ}
+    → i ≡ (order_pair order p).lot → j ≡ (order_pair order p).call → (i < 32) × (j < m) × (j < 32) × (entry table i j ≢ 0)
+pair_in w p h {i} {j} lot_is call_is = (
+  omega (arith, lot_is, w.lot_in p h),
+  omega (arith, call_is, w.call_in p h),
+  omega (arith, call_is, w.call_in p h, w.few_calls),
+  λ e. w.in_table p h (rw (← lot_is, ← call_is) e),
+)
+
 -- a lot is eligible for the calls of its row's word, and so for those of a word cut by it
-pub shared_has : (book table starts order : List ℕ) (count m : ℕ) (w : Walkable book table starts order count m) (p : ℕ) → p < count → (i j : ℕ)
-    → i ≡ (order_pair order p).lot → j ≡ (order_pair order p).call → (word row : ℕ) → row ≡ u32_at book (get_or starts i 0)
+pub shared_has : {book table starts order : List ℕ} {count m : ℕ} (w : Walkable book table starts order count m) (p : ℕ) → p < count → {i j : ℕ}
+    → i ≡ (order_pair order p).lot → j ≡ (order_pair order p).call → (word : ℕ) {row : ℕ} → row ≡ u32_at book (get_or starts i 0)
     → (l : ℕ) → l < 32 → bit (bit_and word row) l ≡ true → entry table i l ≡ 0 → ⊥
-shared_has book table starts order count m w p h i j lot_is call_is word row row_is l hl shared none =
+shared_has {table = table} w p h {i} {j} lot_is call_is word {row} row_is l hl shared none =
     let in_row = (and_says (bit word l) (bit row l) (subst T (sym shared ∙ bit_and_lem word row l) tt)).1 in
     T_not (eqb (entry table i l) 0) (subst T (rw (← row_is) at (w.worded.has i j l (rw lot_is (w.lot_in p h))
     (omega (arith, call_is, w.call_in p h, w.few_calls)) hl (λ e. w.in_table p h (rw (← lot_is, ← call_is) e)))) in_row)
@@ -111,24 +126,22 @@ shared_has book table starts order count m w p h i j lot_is call_is word row row
 
 -- what the walk keeps from p on: the words of the calls that each lot has pairs with there, the words and least gaps of the calls, and the
 -- lowest place that fails
-pub record WalkedFrom (book table order : List ℕ) (count m p : ℕ) (common later least : List ℕ) (lowest : ℕ) : Type 0 where
+pub record WalkedFrom (book table order : List ℕ) (count m p : ℕ) (common later least : List ℕ) (lowest : Option ℕ) : Type 0 where
   pub long : (length common ≡ 32) × (length later ≡ 32)
   pub small : (i : ℕ) → i < 32 → get_or later i 0 < 2 ^ 32
   pub marked : (i l : ℕ) → i < 32 → bit (get_or later i 0) l ≡ standing (rest order count p) i l
-  pub capped : Capped least
   pub walked : (n : ℕ) → n ≤ 32 → OrderOf (problem_by book table n m) (rest order count 0)
       → Keeps m common least (backward (problem_by book table n m) cost_top (rest order count p)).gaps
-      × LowestNotFree (problem_by book table n m) order count p lowest
+      × LowestFrom (problem_by book table n m) order count p lowest
 
 -- before the first turn nothing is in play
 pub walked_none : (book table order : List ℕ) (count m : ℕ) → m ≤ 32
-    → WalkedFrom book table order count m count (replicate 32 (2 ^ 32 - 1)) (replicate 32 0) (replicate 1024 gap_top) count
+    → WalkedFrom book table order count m count (replicate 32 (2 ^ 32 - 1)) (replicate 32 0) (replicate 1024 gap_top) None
 unfolding backward times
 walked_none book table order count m few = record {
   long = (length-replicate {A = ℕ} 32 (2 ^ 32 - 1), length-replicate {A = ℕ} 32 0);
   small = λ i hi. omega (arith, get_or-replicate {A = ℕ} 32 i 0 0 hi);
   marked = λ i l hi. rw (get_or-replicate {A = ℕ} 32 i 0 0 hi, rest_none order count) (bit_none l);
-  capped = capped_all;
   walked = λ n few_lots each_once. (
     rw (rest_none order count) (record {
       at = λ j l hj hl. rw (get_or-replicate {A = ℕ} 32 j (2 ^ 32 - 1) 0 (omega arith), bit_all 32 l (omega arith))
@@ -139,9 +152,9 @@ walked_none book table order count m few = record {
 }
 
 -- the whole turn of the pair (i, j) at p, `next` being the place after it, by the word of its lot's row
-module _ (book table starts order : List ℕ) (count m : ℕ) (w : Walkable book table starts order count m)
-    (p : ℕ) (h : p < count) (next : ℕ) (next_is : next ≡ p + 1) (i j : ℕ) (lot_is : i ≡ (order_pair order p).lot)
-    (call_is : j ≡ (order_pair order p).call) (common later least after : List ℕ) (row single fits lowest : ℕ)
+module _ {book table starts order : List ℕ} {count m : ℕ} (w : Walkable book table starts order count m)
+    (p : ℕ) (h : p < count) (next : ℕ) (next_is : next ≡ p + 1) {i j : ℕ} (lot_is : i ≡ (order_pair order p).lot)
+    (call_is : j ≡ (order_pair order p).call) {common later least after : List ℕ} {row single fits : ℕ} (lowest : Option ℕ)
     (row_is : row ≡ u32_at book (get_or starts i 0)) (single_is : single ≡ 2 ^ j)
     (entered : PairEntered book table m i j (bit_and (get_or common j 0) row) least fits after)
     (so_far : WalkedFrom book table order count m next common later least lowest) where
@@ -198,12 +211,12 @@ module _ (book table starts order : List ℕ) (count m : ℕ) (w : Walkable book
         common least after so_far.long.0 row fits row_has entered kept l hl (rw lot_is e)))
 
     lowest_is : (b : Bool) → free_at (problem_by book table n m) order count p ≡ b
-        → LowestNotFree (problem_by book table n m) order count p (cond b lowest p)
-    lowest_is true e = lowest_before next_is e (so_far.walked n few_lots each_once).1
-    lowest_is false e = lowest_here h e
+        → LowestFrom (problem_by book table n m) order count p (cond b lowest (Some p))
+    lowest_is true e = lowest_before (problem_by book table n m) order count p next lowest next_is e (so_far.walked n few_lots each_once).1
+    lowest_is false e = lowest_here (problem_by book table n m) order count p h e
 
   pub walk_turn : (b : Bool) → eqb (bit_and marked fits) marked ≡ b
-      → WalkedFrom book table order count m p (set common j (bit_and (get_or common j 0) row)) (set later i marked) after (cond b lowest p)
+      → WalkedFrom book table order count m p (set common j (bit_and (get_or common j 0) row)) (set later i marked) after (cond b lowest (Some p))
   walk_turn b e = record {
     long = (length-set common j _ ∙ so_far.long.0, length-set later i marked ∙ so_far.long.1);
     small = λ k hk. by_cases (ℕ_discrete k i)
@@ -212,7 +225,6 @@ module _ (book table starts order : List ℕ) (count m : ℕ) (w : Walkable book
     marked = λ k l hk. by_cases (ℕ_discrete k i)
         (λ (q : k ≡ i). rw (q, get_or-set_same later i marked 0 (omega (arith, lot_few, so_far.long.1))) (marked_is l))
         (λ ne. rw (get_or-set_other later i k marked 0 ne) (marked_other k l hk ne));
-    capped = entered.capped;
     walked = λ n few_lots each_once.
         (keeps_are n few_lots each_once, lowest_is n few_lots each_once b (sym (free_is n few_lots each_once) ∙ e));
   }

@@ -2,7 +2,7 @@
 use Rattle.std.specs.Prelude.{◌≡◌, ℕ, suc, ◌+◌, ◌-◌, ◌*◌, ◌^◌, ◌<◌, ◌≤◌, min, Bool, true, cond, ◌&&◌, List, length, ◌≢◌, nat_le, nat_lt, slice_index, slice_set}
 use Rattle.specification.specs.Costs.{cost_top}
 use Rattle.specification.specs.Book.{bit}
-use Rattle.book.specs.Table.{entry, raised_at, Tabled}
+use Rattle.book.specs.Table.{entry, raised_at}
 
 -- the highest gap: of a cost at the limit over one as far below zero
 abbrev pub gap_top : ℕ
@@ -25,34 +25,28 @@ pub record Capped (xs : List ℕ) : Type 0 where
 pub record Singles (words : List ℕ) : Type 0 where
   pub is : (l : ℕ) → l < 32 → slice_index words l ≡ 2 ^ l
 
--- the gap of call j, of the cost `own`, over call l, whose cost stands at a byte
-pub record CanLower (book : List ℕ) (own at j l : ℕ) (least : List ℕ) : Type 0 where
+-- a cost that is within the range stands at a byte of the book
+pub record CostStands (book : List ℕ) (at : ℕ) : Type 0 where
   pub within : at + 4 ≤ length book
   pub cheap : raised_at book at ≤ cost_top
-  pub own_cheap : own ≤ cost_top
-  pub call_in : j < 32
-  pub other_in : l < 32
-  pub capped : Capped least
+
+-- the costs of lot i, one for each of m calls, stand side by side from `start` on
+pub record SideBySide (table : List ℕ) (m i start : ℕ) : Type 0 where
+  pub some : 0 < start
+  pub from : (l : ℕ) → l < m → entry table i l ≡ start + 4 * l
 
 -- the gaps over m calls whose costs stand side by side
-pub record CanLowerRow (book : List ℕ) (own start m : ℕ) (singles : List ℕ) (j : ℕ) (least : List ℕ) : Type 0 where
-  pub within : (l : ℕ) → l < m → start + 4 * l + 4 ≤ length book
-  pub cheap : (l : ℕ) → l < m → raised_at book (start + 4 * l) ≤ cost_top
-  pub few_calls : m ≤ 32
+pub record CanLowerRow (book : List ℕ) (own start m j : ℕ) : Type 0 where
+  pub stands : (l : ℕ) → l < m → CostStands book (start + 4 * l)
   pub own_cheap : own ≤ cost_top
   pub call_in : j < 32
-  pub singled : Singles singles
-  pub capped : Capped least
 
 -- the gaps over the calls of a word, which lot i is eligible for
-pub record CanLowerSet (book table : List ℕ) (own word : ℕ) (singles : List ℕ) (i j : ℕ) (least : List ℕ) : Type 0 where
-  pub tabled : Tabled book table
+pub record CanLowerSet (table : List ℕ) (own word i j : ℕ) : Type 0 where
   pub has : (l : ℕ) → l < 32 → bit word l ≡ true → entry table i l ≢ 0
   pub own_cheap : own ≤ cost_top
   pub lot_in : i < 32
   pub call_in : j < 32
-  pub singled : Singles singles
-  pub capped : Capped least
 
 -- the least gap of call j over call l is lowered to a new one; the answer is 0 where it was lower already, and else call l's word
 pub record GapLowered (single j l new : ℕ) (least : List ℕ) (r : ℕ) (after : List ℕ) : Type 0 where
@@ -61,7 +55,6 @@ pub record GapLowered (single j l new : ℕ) (least : List ℕ) (r : ℕ) (after
 
 -- the least gaps of call j over some calls are lowered to these; the answer has those calls over which no least gap was lower already
 pub record Lowered (gap : ℕ → ℕ) (some : ℕ → Bool) (j : ℕ) (least : List ℕ) (r : ℕ) (after : List ℕ) : Type 0 where
-  pub capped : Capped after
   pub lowers : (l : ℕ) → l < 32 → entry after j l ≡ cond (some l) (min (entry least j l) (gap l)) (entry least j l)
   pub others : (a l : ℕ) → a < 32 → l < 32 → (a ≢ j) → entry after a l ≡ entry least a l
   pub says : (l : ℕ) → l < 32 → bit r l ≡ (some l && nat_le (gap l) (entry least j l))

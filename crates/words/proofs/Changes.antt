@@ -1,19 +1,21 @@
--- A word less the numbers of another, digit by digit and as a difference; so one number taken out, and one put in.
-use mathlib.Core.Path.{◌≡◌, refl, sym, ap, ◌∙◌, subst⁻¹}
-use mathlib.Core.Bool.{Bool, true, false, not, ◌&&◌, ◌||◌, and-true, and-false, or-false, true≢false}
-use Prim.Native.Nat.{ℕ, suc, ◌+◌, ◌-◌, ◌/◌, ◌%◌, ◌^◌, ◌<◌}
-use native.Mathlib.Nat.{mod-lt, lt_of_lt_of_le, lt_of_le_of_lt, pow-suc}
-use native.Mathlib.Omega.{arith}
-use borrow.Author.Count.{below_more}
-use borrow.Author.Tests.{eq-eqb, ne_eqb}
-use lib.Dec.{T, eqb, eqb→eq}
-use lib.Bits.{bit_and, bit_or, bit_xor, and_le_l, xor_lt, xor_add_and, and_comm}
+-- A word less the numbers of another, digit by digit; so one number taken out, and one put in.
+use Rattle.std.proofs.Common.{◌≡◌, ◌≢◌, ℕ, suc, ◌+◌, ◌-◌, ◌*◌, ◌/◌, ◌%◌, ◌^◌, ◌<◌, ◌≤◌, Bool, true, false, not, ◌&&◌, ◌||◌, eqb, refl, sym, ap, ◌∙◌, arith, eq-eqb, ne_eqb, true≢false, below_more}
+use mathlib.Core.Path.{subst⁻¹}
+use mathlib.Core.Logic.{by_cases}
+use mathlib.Core.Bool.{and-true, and-false, or-false}
+use native.Mathlib.Nat.{mod-lt, lt_of_lt_of_le, lt_of_le_of_lt, pow-suc, div-add-mod'}
+use native.Mathlib.Numerals.{add-one}
+use native.Mathlib.Decide.{ℕ_discrete, dec_lt}
+use Rattle.std.specs.Int.{bit_at, from_bool}
+use Rattle.std.proofs.lemmas.Nat.Bits.{bit_at-lt, bit_at_cat_low, bit_at_cat_high, bit_at_ones_above, same_from_bits}
+use borrow.Author.Tests.{eqb-true, eqb-false}
+use lib.Bits.{bit_and, bit_or, and_le_l, and_le_r}
 use lib.Pow.{pow_pos, field, mod-mod-pow, pow_mono}
 use Rattle.specification.specs.Book.{bit}
-use Rattle.rows.proofs.Bits.{bit_past}
-use Rattle.words.specs.Words.{Below, Minus, Without, Begins, IncludingIf}
-use Rattle.words.proofs.Sets.{bit_none, bit_or_lem, bit_and_lem, bit_xor_lem, bit_single, cut_same}
-use Rattle.words.proofs.Ends.{lowest_is}
+use Rattle.rows.proofs.Bits.{bit_past, below_power, one_shifted}
+use Rattle.words.specs.Words.{LowestIn, Below, Minus, Without, Begins, IncludingIf}
+use Rattle.words.proofs.Sets.{bit_none, bit_or_lem, bit_and_lem, bit_not_lem, bit_single}
+use Rattle.words.proofs.Ends.{lowest_is, word_positive}
 
 -- the lower digits
 pub below_is : (n j : ℕ) → Below n j (n % 2 ^ j)
@@ -26,54 +28,100 @@ below_is n j = record {
 }
 
 -- a word less another
-abbrev less : ℕ → ℕ → ℕ
-less w o = bit_xor w (bit_and w o)
+less_is : (w o l : ℕ) → w < 2 ^ 32 → o < 2 ^ 32 → bit (bit_and w (4294967295 - o)) l ≡ (bit w l && not (bit o l))
+less_is w o l hw ho = bit_and_lem w (4294967295 - o) l ∙ by_cases (dec_lt l 32)
+    (λ h. ap (λ (b : Bool). bit w l && b) (bit_not_lem o l ho h))
+    (λ h. rw (bit_past w l (below_power l hw (omega arith))))
 
-bit_less_word : (w o l : ℕ) → bit (less w o) l ≡ (bit w l && not (bit o l))
-bit_less_word w o l = bit_xor_lem w (bit_and w o) l ∙ ap (differs (bit w l)) (bit_and_lem w o l) ∙ cases (bit w l) (bit o l)
-  where
-    differs : Bool → Bool → Bool
-    differs a b = (a && not b) || (not a && b)
-
-    cases : (a b : Bool) → differs a (a && b) ≡ (a && not b)
-    cases true true = refl
-    cases true false = refl
-    cases false b = refl
-
-pub minus_is : (w o : ℕ) → w < 2 ^ 32 → Minus w o (less w o)
-minus_is w o h = record {
-  each = bit_less_word w o;
-  some = λ p. let low = lowest_is (less w o) p (xor_lt 32 w (bit_and w o) h (lt_of_le_of_lt (and_le_l w o) h)) in (_, low.0, low.1);
+pub minus_is : (w o : ℕ) → w < 2 ^ 32 → o < 2 ^ 32 → Minus w o (bit_and w (4294967295 - o))
+minus_is w o hw ho = record {
+  each = λ l. less_is w o l hw ho;
+  some = λ p. let low = lowest_is _ p (lt_of_le_of_lt (and_le_l w (4294967295 - o)) hw) in (_, low.0, low.1);
 }
 
--- with a single number of the word, it is their difference
-less_single : (w j : ℕ) → bit w j ≡ true → less w (2 ^ j) + 2 ^ j ≡ w
-less_single w j e =
-    let one : bit_and w (2 ^ j) ≡ 2 ^ j = and_comm w (2 ^ j) ∙ cut_same (suc j) (2 ^ j) w (pow_grows j) inside in
-    omega (arith, xor_add_and w (bit_and w (2 ^ j)), ap (bit_and w) one ∙ one, one)
+pub without_is : (w j : ℕ) → w < 2 ^ 32 → j < 32 → Without w j (bit_and w (4294967295 - 1 * 2 ^ j % 4294967296))
+without_is w j hw hj = rw (one_shifted j hj) (record { out = out; others = others; lower = lower })
   where
-    inside : (l : ℕ) → T (bit (2 ^ j) l) → T (bit w l)
-    inside l t = let s : l ≡ j = eqb→eq l j (rw (bit_single j l) at t) in rw (s, e) tt
+    single : 2 ^ j < 2 ^ 32
+    single = let within : suc j ≤ 32 = omega arith in let up : 2 ^ suc j ≤ 2 ^ 32 = pow_mono within in omega (arith, up, pow-suc 2 j, pow_pos j)
 
-    pow_grows : (j : ℕ) → 2 ^ j < 2 ^ suc j
-    pow_grows j = omega (arith, pow_pos j, pow-suc 2 j)
+    out : bit (bit_and w (4294967295 - 2 ^ j)) j ≡ false
+    out = less_is w (2 ^ j) j hw single ∙ rw (bit_single j j, eq-eqb j j refl) (and-false (bit w j))
 
-pub without_is : (w j : ℕ) → Without w j (less w (2 ^ j))
-without_is w j = record {
-  out = bit_less_word w (2 ^ j) j ∙ rw (bit_single j j, eq-eqb j j refl) (and-false (bit w j));
-  others = λ l d. bit_less_word w (2 ^ j) l ∙ rw (bit_single j l, ne_eqb l j d) (and-true (bit w l));
-  lower = λ b. omega (arith, less_single w j b, pow_pos j);
-}
+    others : (l : ℕ) → (l ≡ j → ⊥) → bit (bit_and w (4294967295 - 2 ^ j)) l ≡ bit w l
+    others l d = less_is w (2 ^ j) l hw single ∙ rw (bit_single j l, ne_eqb l j d) (and-true (bit w l))
 
-pub including_is : (w j : ℕ) → IncludingIf true w j (bit_or w (2 ^ j))
-including_is w j = record {
+    lower : bit w j ≡ true → bit_and w (4294967295 - 2 ^ j) < w
+    lower b = let ne : bit_and w (4294967295 - 2 ^ j) ≢ w = λ e. true≢false (sym b ∙ sym (ap (λ (x : ℕ). bit x j) e) ∙ out) in
+        omega (arith, and_le_l w (4294967295 - 2 ^ j))
+
+-- a word less 1 has the numbers above the lowest, and those below it: with the word it has all but the lowest
+module _ (w j : ℕ) (low : LowestIn w j) where
+  digit_same : (d e : ℕ) → d < 2 → e < 2 → eqb d 1 ≡ eqb e 1 → d ≡ e
+  digit_same d e hd he same = by_cases (ℕ_discrete d 1)
+      (λ one. omega (arith, eqb-true e 1 (sym same ∙ eq-eqb d 1 one)))
+      (λ none. omega (arith, eqb-false e 1 (sym same ∙ ne_eqb d 1 none)))
+
+  low_bit : (i : ℕ) → bit (w % 2 ^ (j + 1)) i ≡ bit (2 ^ j) i
+  low_bit i = by_cases (ℕ_discrete i j)
+      (λ (e : i ≡ j). rw (e, bit_single j j, eq-eqb j j refl) ((below_is w (j + 1)).lower j (omega arith) ∙ low.is_in))
+      (λ ne. rw (bit_single j i, ne_eqb i j ne) (by_cases (dec_lt i j)
+      (λ h. (below_is w (j + 1)).lower i (omega arith) ∙ low.none_below i h)
+      (λ h. (below_is w (j + 1)).none i (omega arith))))
+
+  low_part : w % 2 ^ (j + 1) ≡ 2 ^ j
+  low_part = same_from_bits _ _ (λ i. digit_same _ _ (bit_at-lt (w % 2 ^ (j + 1)) i) (bit_at-lt (2 ^ j) i) (low_bit i))
+
+  less_one : w - 1 ≡ w / 2 ^ (j + 1) * 2 ^ (j + 1) + (2 ^ j - 1)
+  less_one = omega (arith, div-add-mod' w (2 ^ (j + 1)), low_part, pow_pos j)
+
+  whole : w ≡ w / 2 ^ (j + 1) * 2 ^ (j + 1) + 2 ^ j
+  whole = omega (arith, div-add-mod' w (2 ^ (j + 1)), low_part)
+
+  small : 2 ^ j < 2 ^ (j + 1)
+  small = rw add-one (omega (arith, pow_pos j, pow-suc 2 j))
+
+  same_above : (l : ℕ) → j < l → bit (w - 1) l ≡ bit w l
+  same_above l h = ap (λ (d : ℕ). eqb d 1) (ap (λ (x : ℕ). bit_at x l) less_one
+      ∙ bit_at_cat_high (w / 2 ^ (j + 1)) (j + 1) (2 ^ j - 1) l (omega (arith, small)) (omega arith)
+      ∙ sym (bit_at_cat_high (w / 2 ^ (j + 1)) (j + 1) (2 ^ j) l small (omega arith)) ∙ sym (ap (λ (x : ℕ). bit_at x l) whole))
+
+  pub rest_is : Without w j (bit_and w (w - 1))
+  rest_is = record { out = out; others = others; lower = λ own. omega (arith, and_le_r w (w - 1), word_positive w j own) }
+    where
+      both : (b : Bool) → (b && b) ≡ b
+      both true = refl
+      both false = refl
+
+      out : bit (bit_and w (w - 1)) j ≡ false
+      out = bit_and_lem w (w - 1) j ∙ rw less_one (ap (λ (d : ℕ). bit w j && eqb d 1)
+          (bit_at_cat_low (w / 2 ^ (j + 1)) (j + 1) (2 ^ j - 1) j (omega arith) ∙ bit_at_ones_above j j (omega arith)) ∙ and-false (bit w j))
+
+      others : (l : ℕ) → (l ≡ j → ⊥) → bit (bit_and w (w - 1)) l ≡ bit w l
+      others l ne = bit_and_lem w (w - 1) l ∙ by_cases (dec_lt l j)
+          (λ h. rw (low.none_below l h))
+          (λ h. rw (same_above l (omega arith)) (both (bit w l)))
+
+pub including_is : (w j : ℕ) → j < 32 → IncludingIf true w j (bit_or w (1 * 2 ^ j % 4294967296))
+including_is w j h = rw (one_shifted j h) (record {
   own = bit_or_lem w (2 ^ j) j ∙ rw (bit_single j j, eq-eqb j j refl) (all (bit w j));
   others = λ l d. bit_or_lem w (2 ^ j) l ∙ rw (bit_single j l, ne_eqb l j d) (or-false (bit w l));
-}
+})
   where
     all : (b : Bool) → (b || true) ≡ true
     all true = refl
     all false = refl
+
+-- the same where the test holds, and else nothing is put in
+pub including_if_is : (test : Bool) (w j : ℕ) → j < 32 → IncludingIf test w j (bit_or w (from_bool test * 2 ^ j % 4294967296))
+including_if_is true w j h = including_is w j h
+including_if_is false w j h = rw nothing (record { own = same j; others = λ l d. same l })
+  where
+    nothing : 0 * 2 ^ j % 4294967296 ≡ 0
+    nothing = omega arith
+
+    same : (l : ℕ) → bit (bit_or w 0) l ≡ bit w l
+    same l = bit_or_lem w 0 l ∙ rw (bit_none l) (or-false (bit w l))
 
 -- a number that is left of a word is not the one taken out, and was in it
 not_lost : {word j after : ℕ} → Without word j after → (l : ℕ) → bit after l ≡ true → l ≡ j → ⊥

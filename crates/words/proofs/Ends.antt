@@ -11,13 +11,15 @@ use lib.Count.{count_leading_zeros, leading_top, count_trailing_zeros}
 use lib.Pow.{pow_mono}
 use Rattle.transport.proofs.Laws.Tests.{positive, false_of}
 use Rattle.specification.specs.Book.{bit}
-use Rattle.rows.proofs.Bits.{bit_past, trails, trails_lt}
+use Rattle.std.proofs.Common.{w32}
+use Rattle.std.proofs.lemmas.Nat.Bits.{bit_at-trailing_zeros}
+use Rattle.rows.proofs.Bits.{bit_past}
 use Rattle.words.specs.Words.{LowestIn, HighestIn}
 use Rattle.words.proofs.Sets.{bit_none}
 
 pub lowest_is : (n : ℕ) → 0 < n → n < 2 ^ 32 → LowestIn n (count_trailing_zeros 32 n) × (count_trailing_zeros 32 n < 32)
-lowest_is n p h = let few = trails_lt 32 n p h in
-    (record { is_in = rw ((trails 32 n).0 few); none_below = λ l lt. rw ((trails 32 n).1 l lt) }, few)
+lowest_is n p h = let (few, one, none) = bit_at-trailing_zeros w32 n p h in
+    (record { is_in = rw one; none_below = λ l lt. rw (none l lt) }, few)
 
 pub leading_le_31 : (n : ℕ) → 0 < n → n < 2 ^ 32 → count_leading_zeros 32 n ≤ 31
 leading_le_31 n p h = let (j, e, low, high) = leading_top 32 n p h in omega arith

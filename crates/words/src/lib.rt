@@ -1,6 +1,8 @@
 // Words of lots or calls: a number below 32 is in a word where that bit of it is set.
 #![tactic(auto)]
 
+pub mod numbers;
+
 ghost use Rattle.std.specs.Prelude.{true, ◌<◌};
 ghost use Rattle.words.specs.Words.{LowestIn, HighestIn, Below, Without, Minus, Either, IncludingIf};
 
@@ -9,7 +11,7 @@ pub fn lowest(word: u32) -> usize
     requires { 0 < word }
     ensures { LowestIn word result × (result < 32) }
 {
-    u32::trailing_zeros(word) as usize
+    word.trailing_zeros() as usize
 }
 
 // The highest number in a word.
@@ -17,24 +19,21 @@ pub fn highest(word: u32) -> usize
     requires { 0 < word }
     ensures { HighestIn word result × (result < 32) }
 {
-    (31 - u32::leading_zeros(word)) as usize
+    (31 - word.leading_zeros()) as usize
 }
 
 // The numbers of a word below one.
 pub fn below(word: u32, j: usize) -> u32
     ensures { Below word j result }
 {
-    if 32 <= j {
-        return word;
-    }
-    word % (1u32 << j)
+    if 32 <= j { word } else { word % (1 << j) }
 }
 
 // The numbers of a word that are not in another.
 pub fn minus(word: u32, other: u32) -> u32
     ensures { Minus word other result }
 {
-    word ^ (word & other)
+    word & !other
 }
 
 // The numbers in either word.
@@ -49,7 +48,7 @@ pub fn without(word: u32, j: usize) -> u32
     requires { j < 32 }
     ensures { Without word j result }
 {
-    word ^ (word & (1u32 << j))
+    word & !(1 << j)
 }
 
 // The word with a number.
@@ -57,7 +56,7 @@ pub fn including(word: u32, j: usize) -> u32
     requires { j < 32 }
     ensures { IncludingIf true word j result }
 {
-    word | (1u32 << j)
+    word | (1 << j)
 }
 
 // The word with a number where the test holds, and else as it was.
@@ -65,5 +64,5 @@ pub fn including_if(test: bool, word: u32, j: usize) -> u32
     requires { j < 32 }
     ensures { IncludingIf test word j result }
 {
-    if test { including(word, j) } else { word }
+    word | (u32::from(test) << j)
 }
