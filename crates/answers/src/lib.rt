@@ -20,7 +20,7 @@ pub struct Answer {
     pub values: [u64; 4],
 }
 
-// The values that the table under "Refused" returns with a cause, the unused ones 0.
+// The values that the table under "Refused" returns with a cause, the unused ones 0: four numbers, as C has them.
 fn values_of(cause: Refusal) -> [u64; 4]
     ensures { result ≡ four_of (stated cause).values }
 {

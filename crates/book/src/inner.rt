@@ -106,7 +106,7 @@ fn enter_set(table: &mut [u16; 1024], word: u32, lot: Lot, at: usize)
     }
 }
 
-// The same where the lot is eligible for the first calls and no others: its set bits are the lowest.
+// The same where the lot is eligible for the first calls and no others: its set bits are the lowest, and this is straight code.
 fn enter_first(table: &mut [u16; 1024], word: u32, lot: Lot, at: usize)
     requires { (lot.0 < 32) × (at < 65000) × (word < 2 ^ ones word) }
     ensures { WithRow table.old word lot.0 at table.new }

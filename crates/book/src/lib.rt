@@ -31,6 +31,7 @@ pub enum Cost {
 fn read_rows(rows: &[u8], version: u16, counts: Counts) -> Result<(), Refusal>
     ensures { told result ≡ read_rows rows.now version 0 counts.lots counts.calls }
 {
+    // The rows themselves tell where the next begins.
     let mut at = 0;
     for lot in 0..counts.lots {
         let row = &rows[at..];

@@ -17,7 +17,7 @@ pub fn find_by(book: &Book, idle: bool, buffer: &mut [u8]) -> Option<usize>
 {
     let mut table = SlackTable::empty();
     table.fill(book);
-    // Two calls: where there is one, the compiler joins the functions and finding takes 2 to 3 % longer.
+    // Two calls: where there is one, the compiler joins the functions and finding takes 2 to 3.5 % longer.
     if idle {
         table.add_idle();
         return find_by_slacks(&table, buffer);

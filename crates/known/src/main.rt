@@ -45,7 +45,7 @@ fn find_and_run_by<F: FnOnce(&[u8], &[u8], &mut [u32]) -> Result<Placed, Refusal
     show::placed(rt, label, name, answer, flow)
 }
 
-// The same with five entries, and seven with an idle call.
+// The same with a flow of five entries, and of seven with an idle call.
 fn run(rt: &impl Print, label: &str, book: &[u8], order: &[u8], amounts: &[u8]) -> io::Result<()> {
     run_in(rt, label, book, order, amounts, &mut [7; 5])
 }

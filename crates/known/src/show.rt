@@ -13,21 +13,14 @@ impl fmt::Display for Passes {
     }
 }
 
-// The length of an order file, and its pairs, each as lot and call with nothing between them.
+// An order file: its length, and its pairs, each as lot and call with nothing between them.
 #[derive(Clone, Copy)]
-struct Written<'a> {
-    length: usize,
-    order: &'a [u8],
-}
+struct Written<'a>(&'a [u8]);
 
 impl fmt::Display for Written<'_> {
     fn fmt<W: fmt::Write>(&self, f: &mut fmt::Formatter<W>) -> fmt::Result {
-        write!(f, "{}, order", self.length)?;
-        let (pairs, _) = self
-            .order
-            .get(7..self.length)
-            .unwrap_or(&[])
-            .as_chunks::<2>();
+        write!(f, "{}, order", self.0.len())?;
+        let (pairs, _) = self.0.get(7..).unwrap_or(&[]).as_chunks::<2>();
         for [lot, call] in pairs {
             write!(f, " {lot}{call}")?;
         }
@@ -104,7 +97,7 @@ pub fn found(
     answer: Result<usize, Refusal>,
     order: &[u8],
 ) -> io::Result<()> {
-    let answer = answer.map(|length| Written { length, order });
+    let answer = answer.map(|length| Written(order.get(..length).unwrap_or(order)));
     println!(rt; "{label} find_order: {}", Answer(answer))
 }
 

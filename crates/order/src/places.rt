@@ -31,7 +31,7 @@ impl<'a, 'o> Check<'a, 'o> {
         Ok(())
     }
 
-    // The pairs of the order in turn, each as `meet` says; where none is refused, the array then holds each pair's place, one more than it is.
+    // The pairs of the order in turn by place, which a refusal tells, each as `meet` says; where none is refused, the array then holds each pair's place, one more than it is.
     pub fn fill_places(&self, places: &mut [u16; 1024]) -> Result<(), Refusal>
         requires { Shows 32 32 places.old (λ i j. 0) }
         ensures says { told result

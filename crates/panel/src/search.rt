@@ -40,7 +40,7 @@ impl Waiting {
         waiting
     }
 
-    // The calls whose pairs with the lot are free.
+    // The calls whose pairs with the lot are free. A straight pass over two arrays by one number.
     fn free_calls(&self, lot: Lot) -> u32
         requires { lot.0 < 8 }
         ensures { FreeCalls self.now.lefts self.now.least lot.0 8 result }

@@ -5,7 +5,7 @@
 pub mod filling;
 pub mod gaps;
 
-// How many lots, and how many calls, there is room for.
+// How many lots, and how many calls, there is room for. A width of its own: one search for 32 and for 8 was much slower (docs/DECISIONS.md, 64).
 pub const SIDE: usize = 8;
 
 // How many pairs.

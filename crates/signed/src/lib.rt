@@ -6,7 +6,7 @@ ghost use Rattle.specification.specs.Costs.{held_cost, cost_base, cost_outside, 
 
 use specification::COST_LIMIT;
 
-// What is added to each cost of a book of this version, so that none is below zero.
+// What is added to each cost of a book of this version, so that none is below zero. A version is the file's number: these functions answer for any.
 pub fn cost_base(version: u16) -> u32
     ensures { result ≡ cost_base version }
 {

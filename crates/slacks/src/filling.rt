@@ -53,7 +53,7 @@ fn enter_set(book: &[u8], at: usize, lot: Lot, word: u32, slacks: &mut [u32; PAI
     next
 }
 
-// The same where the lot is eligible for the first calls and no others: its set bits are the lowest, and none is looked for.
+// The same where the lot is eligible for the first calls and no others: its set bits are the lowest, none is looked for, and this is straight code.
 fn enter_first(book: &[u8], at: usize, lot: Lot, word: u32, slacks: &mut [u32; PAIRS]) -> usize
     requires reached { Reached book.now lot.0 0 (at + 4) slacks.old }
     requires lot_in { lot.0 < book_lots book.now }

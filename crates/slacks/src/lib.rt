@@ -20,7 +20,7 @@ pub const SLACK_OF_ZERO: u32 = COST_LIMIT + 1;
 // The highest slack, that of the lowest cost.
 pub const SLACK_MOST: u32 = COST_LIMIT + SLACK_OF_ZERO;
 
-// The pair becomes the next of the pairs, two bytes each.
+// The pair becomes the next of the pairs, two bytes each, as an order's file has them.
 pub fn put(pairs: &mut [u8], count: usize, lot: Lot, call: Call)
     requires { (lot.0 < 32) × (call.0 < 32) × (count < 1024) × (2048 ≤ length pairs.old) }
     ensures { take (2 * (count + 1)) pairs.new ≡ take (2 * count) pairs.old ++ (lot.0 ∷ call.0 ∷ []) }

@@ -20,7 +20,7 @@ pub use table::Given;
 use words::numbers::numbers_of;
 use words::{below, minus, without};
 
-// Whether a pair is hindered in the low half, and in the high half.
+// Whether a pair is hindered in the low half, and in the high half. Each is handed to its own half of the marks.
 #[derive(Clone, Copy)]
 pub struct Hindered {
     pub low: bool,
@@ -33,8 +33,9 @@ const IN_LOW: Hindered = Hindered {
     high: false,
 };
 
-// Whether the pair (i, j) does not fit with lot k at a call left to lot i. All calls are tried, so that there is no branch. The slack of (k, j) is
-// taken off that of the pair, which is the same at all calls, and signed numbers are compared, which a processor does with several at a time.
+// Whether the pair does not fit with the other lot at a call left to its own. All calls are tried, so that there is no branch. The other lot's slack at
+// the pair's call is taken off that of the pair, which is the same at all calls, and signed numbers are compared, which a processor does with several
+// at a time.
 fn misfits(slacks: &[u32; PAIRS], raised: &[u32; PAIRS], lot: Lot, call: Call, other: Lot) -> bool
     requires { (lot.0 < 32) × (call.0 < 32) × (other.0 < 32) × Capped slacks.now × ((x : ℕ) → get_or raised.now x 0 ≤ 2 * suc cost_top) }
     ensures { Misfits slacks.now raised.now lot.0 call.0 other.0 32 result }

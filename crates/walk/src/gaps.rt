@@ -28,14 +28,15 @@ impl Gaps {
         Gaps { least: [0; 1024] }
     }
 
-    // Before any is lowered: all are the highest.
+    // Before any is lowered: all are the highest. A step of its own, so that the array is filled where it stands.
     pub fn raise(&mut self)
         ensures { self.new.least ≡ replicate 1024 gap_top }
     {
         self.least.fill(GAP_TOP);
     }
 
-    // Lowers the least gap of call j over call l to one at a lot. The answer is 0 where it was lower already, and else the word of call l.
+    // Lowers the least gap of call j over call l to one at a lot. The answer is 0 where it was lower already, and else the word of call l: answers are or-ed
+    // together without a branch.
     fn lower(&mut self, j: Call, l: Call, gap: u32, single: u32) -> u32
         requires { (j.0 < 32) × (l.0 < 32) × (gap ≤ gap_top) }
         ensures { GapLowered single j.0 l.0 gap self.old.least result self.new.least }
@@ -60,7 +61,7 @@ impl Gaps {
         fits
     }
 
-    // The same over each call of a word, for lot i.
+    // The same over each call of a word, for lot i: its costs may stand anywhere, so this is no straight pass.
     fn lower_set(&mut self, costs: &Costs, own: u32, word: u32, i: Lot, j: Call) -> u32
         requires { CanLowerSet costs.now.offsets.now own word i.0 j.0 }
         ensures { Lowered (λ l. gap_over costs.now.book.now own (entry costs.now.offsets.now i.0 l)) (bit word) j.0 self.old.least result
