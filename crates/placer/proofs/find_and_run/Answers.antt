@@ -7,15 +7,12 @@ use Rattle.remaining.proofs.Loading.{can_load, lots_fit, loaded_holds}
 use Rattle.placer.proofs.Placing.{plain_is}
 use Rattle.placer.proofs.find_and_run.Goals as goal
 
-pub returns-in_err-book-clause-result_value : goal.returns-in_err-book-clause-result_value
-unfolding find_and_run found_to_run
-returns-in_err-book-clause-result_value c =
-    let p = err_from_is_err_and c.from_residual.result c.from_residual.ensures.1 in
-    rw (p.1, p.2) (simp (sym c.in_err-book.ensures.counts) refl)
-
-pub returns-in_err-book-clause-flow_after : goal.returns-in_err-book-clause-flow_after
+pub returns-in_err-book : goal.returns-in_err-book
 unfolding find_and_run found_to_run find_and_run_flow
-returns-in_err-book-clause-flow_after c = simp (sym c.in_err-book.ensures.counts) refl
+returns-in_err-book c =
+    let p = err_from_is_err_and c.from_residual.result c.from_residual.ensures.1 in
+    let refused = sym c.in_err-book.ensures.counts in
+    record { result_value = rw (p.1, p.2) (simp refused refl); flow_after = simp refused refl }
 
 pub load-remaining-requires : goal.load-remaining-requires
 load-remaining-requires c =
@@ -30,16 +27,10 @@ find_then_run-requires c =
     let read = sym (rw (← c.in_ok-book.ensures.bytes) at c.in_ok-book.ensures.counts) in
     record { room = λ e. absurd (false≢true e); fits = lots_fit _ _ b.readable c.args.amounts.now read c.load-remaining.ensures }
 
-pub returns-clause-result_value : goal.returns-clause-result_value
-returns-clause-result_value c =
+pub returns : goal.returns
+returns c =
     let b = c.in_ok-book.book in
     let read = sym (rw (← c.in_ok-book.ensures.bytes) at c.in_ok-book.ensures.counts) in
     let placed = c.find_then_run.ensures _ _ (loaded_holds _ _ b.readable c.args.amounts.now read c.load-remaining.ensures) in
-    rw (← c.in_ok-book.ensures.bytes) (placed.0 ∙ sym (plain_is _ _ c.args.flow.now _ read).0)
-
-pub returns-clause-flow_after : goal.returns-clause-flow_after
-returns-clause-flow_after c =
-    let b = c.in_ok-book.book in
-    let read = sym (rw (← c.in_ok-book.ensures.bytes) at c.in_ok-book.ensures.counts) in
-    let placed = c.find_then_run.ensures _ _ (loaded_holds _ _ b.readable c.args.amounts.now read c.load-remaining.ensures) in
-    rw (← c.in_ok-book.ensures.bytes) (placed.1 ∙ sym (plain_is _ _ c.args.flow.now _ read).1)
+    let same = plain_is _ _ c.args.flow.now _ read in
+    rw (← c.in_ok-book.ensures.bytes) (record { result_value = placed.0 ∙ sym same.0; flow_after = placed.1 ∙ sym same.1 })

@@ -17,15 +17,12 @@ use Rattle.remaining.proofs.Loading.{sizes_within, can_load, lots_fit, calls_fit
 use Rattle.placer.proofs.Placing.{refused_by_18, refused_by_19, idle_is, idle_held}
 use Rattle.placer.proofs.find_and_run_idle.Goals as goal
 
-pub returns-in_err-book-clause-result_value : goal.returns-in_err-book-clause-result_value
-unfolding find_and_run_idle found_to_run_idle
-returns-in_err-book-clause-result_value c =
-    let p = err_from_is_err_and c.from_residual.result c.from_residual.ensures.1 in
-    rw (p.1, p.2) (simp (sym c.in_err-book.ensures.counts) refl)
-
-pub returns-in_err-book-clause-flow_after : goal.returns-in_err-book-clause-flow_after
+pub returns-in_err-book : goal.returns-in_err-book
 unfolding find_and_run_idle found_to_run_idle find_and_run_idle_flow
-returns-in_err-book-clause-flow_after c = simp (sym c.in_err-book.ensures.counts) refl
+returns-in_err-book c =
+    let p = err_from_is_err_and c.from_residual.result c.from_residual.ensures.1 in
+    let refused = sym c.in_err-book.ensures.counts in
+    record { result_value = rw (p.1, p.2) (simp refused refl); flow_after = simp refused refl }
 
 pub load-real-requires : goal.load-real-requires
 load-real-requires c =

@@ -8,31 +8,22 @@ use Rattle.remaining.proofs.Loading.{too_short}
 use Rattle.placer.proofs.Placing.{places_17, plain_is}
 use Rattle.placer.proofs.find_and_run_within.Goals as goal
 
-pub returns-in_err-book-clause-result_value : goal.returns-in_err-book-clause-result_value
-unfolding find_and_run found_to_run
-returns-in_err-book-clause-result_value c =
-    let p = err_from_is_err_and c.from_residual.result c.from_residual.ensures.1 in
-    rw (p.1, p.2) (simp (sym c.in_err-book.ensures.counts) refl)
-
-pub returns-in_err-book-clause-flow_after : goal.returns-in_err-book-clause-flow_after
+pub returns-in_err-book : goal.returns-in_err-book
 unfolding find_and_run found_to_run find_and_run_flow
-returns-in_err-book-clause-flow_after c = simp (sym c.in_err-book.ensures.counts) refl
+returns-in_err-book c =
+    let p = err_from_is_err_and c.from_residual.result c.from_residual.ensures.1 in
+    let refused = sym c.in_err-book.ensures.counts in
+    record { result_value = rw (p.1, p.2) (simp refused refl); flow_after = simp refused refl }
 
-pub returns-then-flow-cells-clause-result_value : goal.returns-then-flow-cells-clause-result_value
-returns-then-flow-cells-clause-result_value c =
-    let book = c.in_ok-book.book in
-    let bytes = book.bytes.now in
+pub returns-then-flow-cells : goal.returns-then-flow-cells
+returns-then-flow-cells c =
+    let b = c.in_ok-book.book in
+    let book = b.bytes.now in
     let read = sym (rw (← c.in_ok-book.ensures.bytes) at c.in_ok-book.ensures.counts) in
-    let short = too_short _ _ book.readable c.args.flow.now (rw c.cells.ensures at c.if-flow-cells.true) in
-    rw (← c.in_ok-book.ensures.bytes) ((places_17 bytes (problem_of bytes) _ _ c.args.flow.now short).0 ∙ sym (plain_is _ _ c.args.flow.now _ read).0)
-
-pub returns-then-flow-cells-clause-flow_after : goal.returns-then-flow-cells-clause-flow_after
-returns-then-flow-cells-clause-flow_after c =
-    let book = c.in_ok-book.book in
-    let bytes = book.bytes.now in
-    let read = sym (rw (← c.in_ok-book.ensures.bytes) at c.in_ok-book.ensures.counts) in
-    let short = too_short _ _ book.readable c.args.flow.now (rw c.cells.ensures at c.if-flow-cells.true) in
-    rw (← c.in_ok-book.ensures.bytes) ((places_17 bytes (problem_of bytes) _ _ c.args.flow.now short).1 ∙ sym (plain_is _ _ c.args.flow.now _ read).1)
+    let short = too_short _ _ b.readable c.args.flow.now (rw c.cells.ensures at c.if-flow-cells.true) in
+    let placed = places_17 book (problem_of book) _ _ c.args.flow.now short in
+    let same = plain_is _ _ c.args.flow.now _ read in
+    rw (← c.in_ok-book.ensures.bytes) (record { result_value = placed.0 ∙ sym same.0; flow_after = placed.1 ∙ sym same.1 })
 
 pub find_then_run-requires-clause-read : goal.find_then_run-requires-clause-read
 find_then_run-requires-clause-read c = sym (rw (← c.in_ok-book.ensures.bytes) at c.in_ok-book.ensures.counts)
