@@ -14,6 +14,12 @@ use specification::{COST_LIMIT, Call, Counts, Lot};
 use std::ops::Range;
 use words::numbers::numbers_of;
 
+// How many lots, and how many calls, the tables have room for. A word of 32 bits holds a row, so it is at most 32.
+pub const SIDE: usize = 32;
+
+// How many pairs they have room for.
+pub const PAIRS: usize = SIDE * SIDE;
+
 impl<'a> Book<'a> {
     // The byte at which each row starts.
     pub fn row_starts(&self) -> [usize; 32]
@@ -54,11 +60,11 @@ impl<'a> Book<'a> {
         self.counts.lots * self.counts.calls
     }
 
-    // The byte at which the book holds the cost of each pair, entry 32 times lot plus call; 0 where the pair is not eligible.
-    pub fn offsets(&self) -> [u16; 1024]
+    // The byte at which the book holds the cost of each pair, entry `SIDE` times lot plus call; 0 where the pair is not eligible.
+    pub fn offsets(&self) -> [u16; PAIRS]
         ensures { result ≡ offset_table self.now.bytes.now }
     {
-        let mut table = [0u16; 1024];
+        let mut table = [0u16; PAIRS];
         let mut at = 7;
         for i in 0..self.counts.lots {
             let row = &self.bytes[at..];
@@ -94,11 +100,11 @@ pub fn cost_from(book: &[u8], start: usize, call: Call, base: u32) -> u32
 }
 
 // Enters the offsets of one lot's costs, of which the first stands at `at`: set bit by set bit.
-fn enter_set(table: &mut [u16; 1024], word: u32, lot: Lot, at: usize)
+fn enter_set(table: &mut [u16; PAIRS], word: u32, lot: Lot, at: usize)
     requires { (lot.0 < 32) × (at < 65000) }
     ensures { WithRow table.old word lot.0 at table.new }
 {
-    let base = 32 * lot.0;
+    let base = SIDE * lot.0;
     let mut next = at as u16;
     for j in numbers_of(word) {
         table[base + j] = next;
@@ -107,11 +113,11 @@ fn enter_set(table: &mut [u16; 1024], word: u32, lot: Lot, at: usize)
 }
 
 // The same where the lot is eligible for the first calls and no others: its set bits are the lowest, and this is straight code.
-fn enter_first(table: &mut [u16; 1024], word: u32, lot: Lot, at: usize)
+fn enter_first(table: &mut [u16; PAIRS], word: u32, lot: Lot, at: usize)
     requires { (lot.0 < 32) × (at < 65000) × (word < 2 ^ ones word) }
     ensures { WithRow table.old word lot.0 at table.new }
 {
-    let base = 32 * lot.0;
+    let base = SIDE * lot.0;
     let mut next = at as u16;
     for entry in table[base..base + rows::word::count(word)].iter_mut() {
         *entry = next;
@@ -120,7 +126,7 @@ fn enter_first(table: &mut [u16; 1024], word: u32, lot: Lot, at: usize)
 }
 
 // The same by whichever of the two fits the word.
-fn enter_row(table: &mut [u16; 1024], word: u32, lot: Lot, at: usize)
+fn enter_row(table: &mut [u16; PAIRS], word: u32, lot: Lot, at: usize)
     requires { (lot.0 < 32) × (at < 65000) }
     ensures { WithRow table.old word lot.0 at table.new }
 {
@@ -131,12 +137,12 @@ fn enter_row(table: &mut [u16; 1024], word: u32, lot: Lot, at: usize)
     }
 }
 
-// What an array of 32 by 32 entries holds for a pair.
-pub fn entry_at<T: Copy>(table: &[T; 1024], lot: Lot, call: Call) -> T
+// What a table of `SIDE` rows holds for a pair.
+pub fn entry_at<T: Copy>(table: &[T; PAIRS], lot: Lot, call: Call) -> T
     requires { (lot.0 < 32) × (call.0 < 32) }
     ensures { (d : T) → result ≡ get_or table.now (32 * lot.0 + call.0) d }
 {
-    table[32 * lot.0 + call.0]
+    table[SIDE * lot.0 + call.0]
 }
 
 // The 32-bit number at an offset from which four bytes stand.
@@ -162,7 +168,7 @@ pub fn base_of(book: &[u8]) -> u32
 }
 
 // The cost of a pair with the limit added, in either version; of a pair that is not eligible it means nothing.
-pub fn cost_of(book: &[u8], table: &[u16; 1024], lot: Lot, call: Call) -> u32
+pub fn cost_of(book: &[u8], table: &[u16; PAIRS], lot: Lot, call: Call) -> u32
     requires { CanRead book.now table.now lot.0 call.0 }
     ensures { result ≡ raised_at book.now (entry table.now lot.0 call.0) }
 {
@@ -171,7 +177,7 @@ pub fn cost_of(book: &[u8], table: &[u16; 1024], lot: Lot, call: Call) -> u32
 }
 
 // Whether a pair is of these lots and calls and eligible.
-pub fn eligible(table: &[u16; 1024], counts: Counts, lot: Lot, call: Call) -> bool
+pub fn eligible(table: &[u16; PAIRS], counts: Counts, lot: Lot, call: Call) -> bool
     requires { (counts.lots ≤ 32) × (counts.calls ≤ 32) }
     ensures { result ≡ admits_by table.now counts.lots counts.calls lot.0 call.0 }
 {

@@ -100,8 +100,8 @@ fn fill_rows(book: &Book, slacks: &mut [u32; PAIRS], words: &mut [u32; SIDE])
     }
 }
 
-// Enters one call more, the last: every lot has it at cost 0.
-fn add_column(slacks: &mut [u32; PAIRS], words: &mut [u32; SIDE], n: usize, m: usize)
+// Enters the idle call, the last, in the two arrays of a table: every lot has it at cost 0.
+pub fn add_idle(slacks: &mut [u32; PAIRS], words: &mut [u32; SIDE], n: usize, m: usize)
     requires { Slacks slacks.old n m × Eligible slacks.old n m words.old × (m < 32) }
     ensures same { Same (with_idle cost_limit (by_slacks slacks.old n m)) (by_slacks slacks.new n (m + 1)) }
     ensures slacks { Slacks slacks.new n (m + 1) × Eligible slacks.new n (m + 1) words.new }
@@ -146,7 +146,7 @@ impl SlackTable {
         ensures same { Same (with_idle cost_limit (by_slacks self.old.slacks self.old.lots self.old.calls))
             (by_slacks self.new.slacks self.new.lots self.new.calls) }
     {
-        add_column(&mut self.slacks, &mut self.words, self.lots, self.calls);
+        add_idle(&mut self.slacks, &mut self.words, self.lots, self.calls);
         self.calls += 1;
         self.total += self.lots;
     }

@@ -6,13 +6,8 @@ pub mod filling;
 
 ghost use Rattle.std.specs.Prelude.{◌≡◌, ◌+◌, ◌*◌, ◌<◌, ◌≤◌, [], ◌∷◌, ◌++◌, length, take};
 
+pub use book::inner::{PAIRS, SIDE};
 use specification::{COST_LIMIT, Call, Lot};
-
-// How many lots, and how many calls, the tables have room for. A word of 32 bits holds a row, so it is at most 32.
-pub const SIDE: usize = 32;
-
-// How many pairs they have room for.
-pub const PAIRS: usize = SIDE * SIDE;
 
 // The slack of a cost of 0: one more than the limit, so that each eligible pair has some.
 pub const SLACK_OF_ZERO: u32 = COST_LIMIT + 1;

@@ -13,9 +13,9 @@ overflow_add-self-2 c = let t = c.args.self.now in omega (arith, size_few t.are,
 pub invariant_of-self : goal.invariant_of-self
 invariant_of-self c =
     let t = c.args.self.now in
-    let (slacks, words) = c.add_column.ensures.slacks in
+    let (slacks, words) = c.add_idle.ensures.slacks in
     record {
       are = slacks;
       eligible = words;
-      counted = omega (arith, t.counted, idle_size cost_limit (by_slacks t.slacks t.lots t.calls), size_of_same c.add_column.ensures.same);
+      counted = omega (arith, t.counted, idle_size cost_limit (by_slacks t.slacks t.lots t.calls), size_of_same c.add_idle.ensures.same);
     }
