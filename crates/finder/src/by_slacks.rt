@@ -6,7 +6,7 @@ ghost use Rattle.finder.specs.Writing.{Orders};
 
 use super::writing::write_order;
 use ranks::rank;
-use search::find_pairs;
+use search::{Searched, find_pairs};
 use slacks::PAIRS;
 use slacks::filling::SlackTable;
 use trial::Given;
@@ -25,16 +25,18 @@ pub fn find_by_slacks(table: &SlackTable, buffer: &mut [u8]) -> Option<usize>
         table.total,
         &mut compared,
     );
-    let given = Given {
-        slacks: &table.slacks,
+    let searched = Searched {
+        given: Given {
+            slacks: &table.slacks,
+            eligible: &table.words,
+            ranking: &ranking,
+        },
         lots: table.lots,
         calls: table.calls,
-        eligible: &table.words,
-        ranking: &ranking,
     };
     // By place in the order, two bytes for each of at most `PAIRS` pairs.
     let mut pairs = [0; 2 * PAIRS];
-    let count = find_pairs(&given, table.total, &mut compared, &mut pairs)?;
+    let count = find_pairs(&searched, table.total, &mut compared, &mut pairs)?;
     write_order(buffer, &pairs, count);
     Some(count)
 }

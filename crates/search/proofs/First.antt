@@ -23,6 +23,7 @@ use Rattle.ranks.specs.Numbered.{Compared}
 use Rattle.lines.specs.Lines.{Lined, Ended}
 use Rattle.lines.specs.declared.Left.{Left}
 use Rattle.trial.specs.declared.table.Given.{Given}
+use Rattle.trial.specs.Tables.{Table}
 use Rattle.trial.specs.Testing.{Raised}
 use Rattle.search.specs.declared.marks.Half.{Half}
 use Rattle.search.specs.Marks.{HalfOf, Asked, TakenMarks, Standing}
@@ -47,23 +48,23 @@ taken_first {eligible} = record {
   long = length-replicate {A = ℕ} 1024 0;
 }
 
-module _ (given : Given) where
+module _ (given : Given) {lots calls : ℕ} (t : Table given.slacks.now lots calls given.eligible.now given.ranking.now) where
   -- a pair that is not eligible has no slack
-  no_slack : (i l : ℕ) → i < given.lots → l < 32 → is_left given.eligible.now i l ≡ false → entry given.slacks.now i l ≡ 0
-  no_slack i l hi hl e = by_cases (dec_lt l given.calls)
-      (λ b. eqb-true (entry given.slacks.now i l) 0 (not-false (eqb (entry given.slacks.now i l) 0) (sym (given.table.eligible_are.each i l hi b) ∙ e)))
-      (λ b. given.table.slacks_are.beyond i l hi (omega arith) hl)
+  no_slack : (i l : ℕ) → i < lots → l < 32 → is_left given.eligible.now i l ≡ false → entry given.slacks.now i l ≡ 0
+  no_slack i l hi hl e = by_cases (dec_lt l calls)
+      (λ b. eqb-true (entry given.slacks.now i l) 0 (not-false (eqb (entry given.slacks.now i l) 0) (sym (t.eligible_are.each i l hi b) ∙ e)))
+      (λ b. t.slacks_are.beyond i l hi (omega arith) hl)
 
   raised_first : {compared : List ℕ} → Compared false given.slacks.now compared → Raised given.slacks.now given.eligible.now compared
   raised_first {compared} f = record {
     on = λ i l hi hl e.
-        let (hi, hj) = given.table.eligible_are.inside i l e in
-        f.each (32 * i + l) (omega arith) ∙ rw (not-true (eqb (entry given.slacks.now i l) 0) (sym (given.table.eligible_are.each i l hi hj) ∙ e));
+        let (hi, hj) = t.eligible_are.inside i l e in
+        f.each (32 * i + l) (omega arith) ∙ rw (not-true (eqb (entry given.slacks.now i l) 0) (sym (t.eligible_are.each i l hi hj) ∙ e));
     gone = λ i j l on hl e.
-        let hi = (given.table.eligible_are.inside i j on).0 in
-        f.each (32 * i + l) (omega (arith, given.table.slacks_are.lots_few)) ∙ rw (eq-eqb (entry given.slacks.now i l) 0 (no_slack i l hi hl e));
+        let hi = (t.eligible_are.inside i j on).0 in
+        f.each (32 * i + l) (omega (arith, t.slacks_are.lots_few)) ∙ rw (eq-eqb (entry given.slacks.now i l) 0 (no_slack i l hi hl e));
     low = λ x. by_cases (dec_lt x 1024)
-        (λ lt. omega (arith, f.each x lt, raised_le (eqb (get_or given.slacks.now x 0) 0) (get_or given.slacks.now x 0), given.table.slacks_are.capped x))
+        (λ lt. omega (arith, f.each x lt, raised_le (eqb (get_or given.slacks.now x 0) 0) (get_or given.slacks.now x 0), t.slacks_are.capped x))
         (λ o. omega (arith, get_or-eq_default {A = ℕ} compared 0 {n = x} (omega (arith, f.long))));
   }
     where
@@ -87,7 +88,7 @@ module _ (given : Given) where
         ended = ended;
         raised_is = λ e. rw all (raised_first (rw e at f));
         costs_are = λ e. rw e at f;
-        lefts_long = rw all given.table.eligible_are.long;
+        lefts_long = rw all t.eligible_are.long;
         compared_long = f.long;
       };
       passed_is = record {
@@ -97,13 +98,13 @@ module _ (given : Given) where
       marks = record { low_half = half_first; high_half = half_first };
     }
 
-  pub asked_first : {some : ℕ} {low high : Half} → Below 4294967295 given.lots some → Asked given.eligible.now low high some
+  pub asked_first : {some : ℕ} {low high : Half} → Below 4294967295 lots some → Asked given.eligible.now low high some
   asked_first w = record {
     each = λ i j on off.
-        let hi = (given.table.eligible_are.inside i j on).0 in
-        absurd (true≢false (sym (bit_all 32 i (omega (arith, given.table.slacks_are.lots_few))) ∙ sym (w.lower i hi) ∙ off));
+        let hi = (t.eligible_are.inside i j on).0 in
+        absurd (true≢false (sym (bit_all 32 i (omega (arith, t.slacks_are.lots_few))) ∙ sym (w.lower i hi) ∙ off));
   }
 
-  pub going_first : (pairs : List ℕ) (total : ℕ) → total ≡ size (by_slacks given.slacks.now given.lots given.calls) → Going (by_slacks given.slacks.now given.lots given.calls) (is_left given.eligible.now) pairs 0 total
-  going_first pairs total e = going_start (by_slacks given.slacks.now given.lots given.calls) (is_left given.eligible.now)
-      (λ i j hi hj. admits_is given.slacks.now given.lots given.calls i j hi hj ∙ sym (given.table.eligible_are.each i j hi hj)) pairs total e (omega (arith, size_few given.table.slacks_are))
+  pub going_first : (pairs : List ℕ) (total : ℕ) → total ≡ size (by_slacks given.slacks.now lots calls) → Going (by_slacks given.slacks.now lots calls) (is_left given.eligible.now) pairs 0 total
+  going_first pairs total e = going_start (by_slacks given.slacks.now lots calls) (is_left given.eligible.now)
+      (λ i j hi hj. admits_is given.slacks.now lots calls i j hi hj ∙ sym (t.eligible_are.each i j hi hj)) pairs total e (omega (arith, size_few t.slacks_are))

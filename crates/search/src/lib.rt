@@ -11,12 +11,22 @@ ghost use Rattle.transport.specs.Finder.{size, find};
 ghost use Rattle.slacks.specs.Slacks.{by_slacks};
 ghost use Rattle.slacks.specs.Found.{Finds};
 ghost use Rattle.ranks.specs.Numbered.{Compared};
+ghost use Rattle.trial.specs.Tables.{Table};
 
 use lines::Left;
 use marks::Half;
 use slacks::{PAIRS, SIDE, put};
 use trial::Given;
 use words::below;
+
+// What is searched, with how many lots and calls it has. A trial does not ask these.
+#[derive(Clone, Copy)]
+pub struct Searched<'a> {
+    pub given: Given<'a>,
+    pub lots: usize,
+    pub calls: usize,
+    pub ghost table: { Table given.slacks.now lots calls given.eligible.now given.ranking.now },
+}
 
 // All that a search keeps: what is left; by pair: below which rank all lots let it pass, and 1 where it is taken; the marks of either half; and the
 // lots that are to be asked.
@@ -33,15 +43,16 @@ struct Search {
 // An order of the eligible pairs: the count of its pairs, with two bytes a pair, lot and call, at the start of the array; or nothing where
 // there is none. With ranks the slacks are Monge by them, and `compared`, the table that trials compare, holds the costs, gaps filled.
 pub fn find_pairs(
-    given: &Given,
+    searched: &Searched,
     total: usize,
     compared: &mut [u32; PAIRS],
     pairs: &mut [u8],
 ) -> Option<usize>
-    requires compared { Compared given.now.ranking.now.ranked given.now.slacks.now compared.old }
-    requires total { (total ≡ size (by_slacks given.now.slacks.now given.now.lots given.now.calls)) × (2048 ≤ length pairs.old) }
-    ensures { Finds (find (by_slacks given.now.slacks.now given.now.lots given.now.calls)) result pairs.new }
+    requires compared { Compared searched.now.given.ranking.now.ranked searched.now.given.slacks.now compared.old }
+    requires total { (total ≡ size (by_slacks searched.now.given.slacks.now searched.now.lots searched.now.calls)) × (2048 ≤ length pairs.old) }
+    ensures { Finds (find (by_slacks searched.now.given.slacks.now searched.now.lots searched.now.calls)) result pairs.new }
 {
+    let given = &searched.given;
     let unmarked = Half {
         waits: [0; SIDE],
         marks: [0; SIDE],
@@ -52,11 +63,9 @@ pub fn find_pairs(
         taken: [0; PAIRS],
         low: unmarked,
         high: unmarked,
-        to_ask: below(u32::MAX, given.lots),
+        to_ask: below(u32::MAX, searched.lots),
     };
-    search
-        .left
-        .fill(given.ranking, given.eligible, given.lots, given.calls);
+    search.left.fill(given.ranking, given.eligible, searched.lots, searched.calls);
     for count in 0..total {
         let (lot, call) = search.next_pair(given, compared)?;
         search.take_pair(given, lot, call, compared);

@@ -1,13 +1,14 @@
 -- The lots that are asked about a pair, without ranks: when a lot hinders it and when it lets it pass, and which are still to be asked once some
 -- were.
 use mathlib.Core.Path.{◌≡◌, refl, sym, ◌∙◌, ap, subst⁻¹}
-use mathlib.Core.Logic.{⊎_elim, by_cases}
+use mathlib.Core.Logic.{⊎_elim, ∥∥₁_elim, by_cases}
 use mathlib.Core.Bool.{Bool, true, false, not, and-true, true≢false, Bool-discrete}
 use mathlib.Core.List.{List}
 use Prim.Native.Nat.{ℕ, ◌+◌, ◌*◌, ◌≤◌, ◌<◌}
 use native.Mathlib.Decide.{ℕ_discrete, dec_lt}
 use native.Mathlib.Omega.{arith}
 use borrow.Author.Tests.{not-false}
+use denote.Struct.Props.{props}
 use lib.ListN.{get_or, set, length-set}
 use lib.Seq.{get_or-set_same, get_or-set_other}
 use Rattle.transport.proofs.Laws.Tests.{and_left, and_right, false_of}
@@ -30,7 +31,7 @@ module _ {given : Given} {left : Left} {compared : List ℕ} {i j : ℕ} (t : Tr
   -- lot k, which still has call j: it hinders the pair at a call left to lot i, or lets it pass
   module _ (k : ℕ) (held : is_left left.lefts k j ≡ true) (plain : given.ranking.now.ranked ≡ false) where
     eligible_is : (l : ℕ) → is_left left.lefts i l ≡ true → is_left given.eligible.now k l ≡ remains given.slacks.now k l
-    eligible_is l e = given.table.eligible_are.each k l (left_in t k j held).0 (left_in t i l e).1
+    eligible_is l e = ∥∥₁_elim given.tabled (hlevel props) (λ d. d.table.eligible_are.each k l (left_in t d k j held).0 (left_in t d i l e).1)
 
     hinders : (l : ℕ) → is_left left.lefts i l ≡ true → (Fitting given.slacks.now i j k l → ⊥) → Halves given.ranking.now.ranked given.slacks.now left i j (record { low = true; high = false })
     hinders l il unfit = record {
@@ -122,10 +123,11 @@ module _ {given : Given} {left : Left} {compared : List ℕ} {i j : ℕ} (t : Tr
     passes_lower : {p : ℕ} → LowestIn lots p → (q : ℕ) → q < p → LetsPass given.slacks.now left.lefts i j (get_or given.ranking.now.names q 0)
     passes_lower {p} low q lt = record {
       fits = λ held. (h.passed (get_or given.ranking.now.names q 0) held (false_of (bit lots (get_or given.ranking.now.ranks (get_or given.ranking.now.names q 0) 0)) (λ e.
-          let r = given.table.numbered.lots_named in
-          let few = r.rank_below (get_or given.ranking.now.names q 0) (left_in t (get_or given.ranking.now.names q 0) j held).0 in
+          ∥∥₁_elim given.tabled (hlevel props) (λ d.
+          let r = d.table.numbered.lots_named in
+          let few = r.rank_below (get_or given.ranking.now.names q 0) (left_in t d (get_or given.ranking.now.names q 0) j held).0 in
           let le = lowest_le lots p (get_or given.ranking.now.ranks (get_or given.ranking.now.names q 0) 0) low e in
-          omega (arith, r.rank_at q (omega arith))))).fits held;
+          omega (arith, r.rank_at q (omega arith)))))).fits held;
     }
 
     pub passed_next : {p : ℕ} {passed : List ℕ} → Passed given left.lefts passed → LowestIn lots p

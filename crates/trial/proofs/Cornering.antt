@@ -1,7 +1,7 @@
 -- By ranks two corners decide. The ends of a line are those of what is left to its lot or of the lots that have its call, by rank; so a pair
 -- is free exactly when it fits at both corners, and a corner at which it does not fit hinders it.
 use mathlib.Core.Path.{◌≡◌, refl, sym, ◌∙◌}
-use mathlib.Core.Logic.{by_cases}
+use mathlib.Core.Logic.{∥∥₁_elim, by_cases}
 use mathlib.Core.Bool.{Bool, true, false, false≢true}
 use mathlib.Core.List.{List}
 use Prim.Native.Nat.{ℕ, ◌+◌, ◌*◌, ◌-◌, ◌<◌}
@@ -9,6 +9,7 @@ use native.Mathlib.Nat.{zero-add}
 use native.Mathlib.Decide.{ℕ_discrete}
 use native.Mathlib.Omega.{arith}
 use borrow.Author.Tests.{leb-true, leb-false, eq-eqb, ne_eqb}
+use denote.Struct.Props.{props}
 use lib.ListN.{get_or}
 use Rattle.transport.specs.Problem.{Problem}
 use Rattle.transport.proofs.Laws.Tests.{T_of, T_true, false_of}
@@ -29,6 +30,7 @@ use Rattle.lines.specs.Lines.{OnLine, EndsOf}
 use Rattle.trial.specs.declared.table.Given.{Given}
 use Rattle.lines.specs.declared.Left.{Left}
 use Rattle.trial.specs.Testing.{Fitting, Passes, Hinders}
+use Rattle.trial.specs.Tables.{Tabled}
 use Rattle.trial.specs.Left.{Trying, HinderedIn, corners_tell, TrialOf}
 use Rattle.trial.proofs.Lefts.{cap, left_in, left_few, own_few, has_slack}
 
@@ -51,15 +53,17 @@ line_ends {ranking} {across} {word} {near} {far} {In} ends to from x in_x =
       greatest = λ y in_y. omega (arith, highest_ge word high (get_or ranking.ranks (across + y) 0) h (to y in_y).is_on);
     })
 
-module _ {given : Given} {left : Left} {compared : List ℕ} {i j : ℕ} (t : Trying given left compared i j) (is : given.ranking.now.ranked ≡ true) where
+-- by a table of what is given, which has so many lots and calls
+module _ {given : Given} {left : Left} {compared : List ℕ} {i j : ℕ} (t : Trying given left compared i j) (is : given.ranking.now.ranked ≡ true)
+    (d : Tabled given.slacks.now given.eligible.now given.ranking.now) where
   abbrev P : Problem
-  P = by_slacks given.slacks.now given.lots given.calls
+  P = by_slacks given.slacks.now d.lots d.calls
 
   remains_of : (k l : ℕ) → is_left left.lefts k l ≡ true → Remains P (is_left left.lefts) k l
-  remains_of k l e = ((left_in t k l e).0, (left_in t k l e).1, T_of e)
+  remains_of k l e = ((left_in t d k l e).0, (left_in t d k l e).1, T_of e)
 
   abbrev monge : Ranked P (λ k. get_or given.ranking.now.ranks k 0) (λ l. get_or given.ranking.now.ranks (32 + l) 0)
-  monge = given.table.monge is
+  monge = d.table.monge is
 
   row : LotEnds P (λ l. get_or given.ranking.now.ranks (32 + l) 0) (is_left left.lefts) i (get_or left.nears i 0) (get_or left.fars i 0)
   row =
@@ -120,14 +124,10 @@ module _ {given : Given} {left : Left} {compared : List ℕ} {i j : ℕ} (t : Tr
       }
 
   few_in : (k l : ℕ) → Remains P (is_left left.lefts) k l → (k < 32) × (l < 32)
-  few_in k l u = let r = given.table.slacks_are in (omega (arith, r.lots_few, u.0), omega (arith, r.calls_few, u.1))
+  few_in k l u = let r = d.table.slacks_are in (omega (arith, r.lots_few, u.0), omega (arith, r.calls_few, u.1))
 
-  pub can_ask : ((i < 32) × (j < 32) × Low costs)
-      × ((get_or left.nears i 0 < 32) × (get_or left.fars i 0 < 32) × (get_or left.nears (32 + j) 0 < 32) × (get_or left.fars (32 + j) 0 < 32))
-  can_ask = (
-    ((own_few t).0, (own_few t).1, low_of filled),
-    ((few_in _ _ row.low_in).1, (few_in _ _ row.high_in).1, (few_in _ _ column.low_in).0, (few_in _ _ column.high_in).0),
-  )
+  ends_few : (get_or left.nears i 0 < 32) × (get_or left.fars i 0 < 32) × (get_or left.nears (32 + j) 0 < 32) × (get_or left.fars (32 + j) 0 < 32)
+  ends_few = ((few_in _ _ row.low_in).1, (few_in _ _ row.high_in).1, (few_in _ _ column.low_in).0, (few_in _ _ column.high_in).0)
 
   unfit_at : (k l : ℕ) → Remains P (is_left left.lefts) k j → Remains P (is_left left.lefts) i l → fits_by costs i j k l ≡ false → Hinders given.slacks.now left.lefts i j k l
   unfit_at k l kj il e =
@@ -135,35 +135,51 @@ module _ {given : Given} {left : Left} {compared : List ℕ} {i j : ℕ} (t : Tr
       let on = T_true (is_left left.lefts i l) il.2 in
       record { held = held; left = on; unfit = not_fitting k l held on e }
 
-  hindered_low : fits_by costs i j (get_or left.fars (32 + j) 0) (get_or left.nears i 0) ≡ false → HinderedIn given.ranking.now.ranked given.slacks.now left.lefts left.nears left.fars i j
-  hindered_low u = record { lot = _; call = _; by_it = unfit_at _ _ column.high_in row.low_in u; cornered = λ z. (refl, refl) }
+  unfit_low : fits_by costs i j (get_or left.fars (32 + j) 0) (get_or left.nears i 0) ≡ false → Hinders given.slacks.now left.lefts i j (get_or left.fars (32 + j) 0) (get_or left.nears i 0)
+  unfit_low u = unfit_at _ _ column.high_in row.low_in u
 
-  hindered_high : fits_by costs i j (get_or left.nears (32 + j) 0) (get_or left.fars i 0) ≡ false → HinderedIn given.ranking.now.ranked given.slacks.now left.lefts left.fars left.nears i j
-  hindered_high u = record { lot = _; call = _; by_it = unfit_at _ _ column.low_in row.high_in u; cornered = λ z. (refl, refl) }
+  unfit_high : fits_by costs i j (get_or left.nears (32 + j) 0) (get_or left.fars i 0) ≡ false → Hinders given.slacks.now left.lefts i j (get_or left.nears (32 + j) 0) (get_or left.fars i 0)
+  unfit_high u = unfit_at _ _ column.low_in row.high_in u
 
   -- whether it fits at both
-  passes : fits_by costs i j (get_or left.fars (32 + j) 0) (get_or left.nears i 0) ≡ true → fits_by costs i j (get_or left.nears (32 + j) 0) (get_or left.fars i 0) ≡ true
+  passes_in : fits_by costs i j (get_or left.fars (32 + j) 0) (get_or left.nears i 0) ≡ true → fits_by costs i j (get_or left.nears (32 + j) 0) (get_or left.fars i 0) ≡ true
       → Passes given.slacks.now left.lefts i j
-  passes u v =
+  passes_in u v =
       let free = (free_iff_corners monge (is_left left.lefts) among i j _ _ _ _ row column).1
       (fits_of _ _ column.high_in row.low_in u, fits_of _ _ column.low_in row.high_in v) in record {
         on = t.is_left_lem;
         passed = λ k. record {
           fits = λ held l on. let g = free k l (remains_of i l on) (remains_of k j held) in
               record {
-                has_slack = sym (admits_is given.slacks.now _ _ k l (left_in t k j held).0 (left_in t i l on).1) ∙ T_true _ g.admitted;
+                has_slack = sym (admits_is given.slacks.now _ _ k l (left_in t d k j held).0 (left_in t d i l on).1) ∙ T_true _ g.admitted;
                 no_dearer = omega (arith, g.no_dearer, cap t i j, cap t k l, cap t i l, cap t k j);
               };
         };
       }
 
-  told_by : (low high : Bool) → fits_by costs i j (get_or left.fars (32 + j) 0) (get_or left.nears i 0) ≡ low
-      → fits_by costs i j (get_or left.nears (32 + j) 0) (get_or left.fars i 0) ≡ high → TrialOf given left i j (corners_tell low high)
+-- so it is, however many they are
+module _ {given : Given} {left : Left} {compared : List ℕ} {i j : ℕ} (t : Trying given left compared i j) (is : given.ranking.now.ranked ≡ true) where
+  pub can_ask : ((i < 32) × (j < 32) × Low compared)
+      × ((get_or left.nears i 0 < 32) × (get_or left.fars i 0 < 32) × (get_or left.nears (32 + j) 0 < 32) × (get_or left.fars (32 + j) 0 < 32))
+  can_ask = (((own_few t).0, (own_few t).1, low_of (t.kept.costs_are is)), ∥∥₁_elim given.tabled (hlevel props) (ends_few t is))
+
+  hindered_low : fits_by compared i j (get_or left.fars (32 + j) 0) (get_or left.nears i 0) ≡ false → HinderedIn given.ranking.now.ranked given.slacks.now left.lefts left.nears left.fars i j
+  hindered_low u = record { lot = _; call = _; by_it = ∥∥₁_elim given.tabled (hlevel props) (λ d. unfit_low t is d u); cornered = λ z. (refl, refl) }
+
+  hindered_high : fits_by compared i j (get_or left.nears (32 + j) 0) (get_or left.fars i 0) ≡ false → HinderedIn given.ranking.now.ranked given.slacks.now left.lefts left.fars left.nears i j
+  hindered_high u = record { lot = _; call = _; by_it = ∥∥₁_elim given.tabled (hlevel props) (λ d. unfit_high t is d u); cornered = λ z. (refl, refl) }
+
+  passes : fits_by compared i j (get_or left.fars (32 + j) 0) (get_or left.nears i 0) ≡ true → fits_by compared i j (get_or left.nears (32 + j) 0) (get_or left.fars i 0) ≡ true
+      → Passes given.slacks.now left.lefts i j
+  passes u v = ∥∥₁_elim given.tabled (hlevel props) (λ d. passes_in t is d u v)
+
+  told_by : (low high : Bool) → fits_by compared i j (get_or left.fars (32 + j) 0) (get_or left.nears i 0) ≡ low
+      → fits_by compared i j (get_or left.nears (32 + j) 0) (get_or left.fars i 0) ≡ high → TrialOf given left i j (corners_tell low high)
   told_by true true u v = passes u v
   told_by true false u v = record { low_told = λ y. absurd (false≢true y); high_told = λ y. hindered_high v; told_in = refl }
   told_by false true u v = record { low_told = λ y. hindered_low u; high_told = λ y. absurd (false≢true y); told_in = refl }
   told_by false false u v = record { low_told = λ y. hindered_low u; high_told = λ y. hindered_high v; told_in = refl }
 
   pub corners_tell_lem : TrialOf given left i j
-      (corners_tell (fits_by costs i j (get_or left.fars (32 + j) 0) (get_or left.nears i 0)) (fits_by costs i j (get_or left.nears (32 + j) 0) (get_or left.fars i 0)))
+      (corners_tell (fits_by compared i j (get_or left.fars (32 + j) 0) (get_or left.nears i 0)) (fits_by compared i j (get_or left.nears (32 + j) 0) (get_or left.fars i 0)))
   corners_tell_lem = told_by _ _ refl refl

@@ -12,3 +12,9 @@ pub record Table (slacks : List ℕ) (lots calls : ℕ) (eligible : List ℕ) (r
   pub numbered : Numbered lots calls ranking.names ranking.ranks
   pub monge : ranking.ranked ≡ true → Ranked (by_slacks slacks lots calls) (λ i. get_or ranking.ranks i 0) (λ j. get_or ranking.ranks (32 + j) 0)
   pub plain : ranking.ranked ≡ false → Plain ranking.ranks
+
+-- the same, of some lots and calls
+pub record Tabled (slacks eligible : List ℕ) (ranking : Ranking) : Type 0 where
+  pub lots : ℕ
+  pub calls : ℕ
+  pub table : Table slacks lots calls eligible ranking

@@ -7,6 +7,6 @@ use Rattle.search.proofs.find_pairs.Given as goal
 
 abbrev pub invariant-loop-count : goal.invariant-loop-count
 invariant-loop-count l =
-    Going (by_slacks l.given.slacks.now l.given.lots l.given.calls) (is_left l.search.left.lefts) l.pairs l.count l.total
-    × Standing l.given l.search l.compared × TakenMarks l.given.eligible.now l.search.left.lefts l.search.taken
+    Going (by_slacks l.searched.given.slacks.now l.searched.lots l.searched.calls) (is_left l.search.left.lefts) l.pairs l.count l.total
+    × Standing l.searched.given l.search l.compared × TakenMarks l.searched.given.eligible.now l.search.left.lefts l.search.taken
     × Asked l.search.left.lefts l.search.low l.search.high l.search.to_ask

@@ -1,6 +1,6 @@
 -- `trial::try_pair` meets its contract: by ranks the corners decide (`corners_tell_lem`), and else the lots that are asked (`Asking`).
 use Rattle.std.proofs.Common.{refl, arith}
-use Rattle.trial.proofs.Lefts.{left_few, own_few}
+use Rattle.trial.proofs.Lefts.{capped, left_few, own_few}
 use Rattle.trial.proofs.Asking.{hinders_missing, hinders_misfit, lets_pass, passes_last, holder, to_ask_others, to_ask_from, to_ask_next, passes_all, passed_next}
 use Rattle.trial.proofs.Cornering.{can_ask, corners_tell_lem}
 use Rattle.trial.proofs.try_pair.Goals as goal
@@ -30,7 +30,7 @@ pub misfits-requires : goal.misfits-requires
 misfits-requires c =
     let t = c.requires.trying in
     let few = (left_few t _ _ (holder t c.loop-p.invariant.0 c.from-k.ensures c.in-Some.ensures.steps.0)).0 in
-    ((own_few t).0, (own_few t).1, few, c.args.given.now.table.slacks_are.capped, (t.kept.raised_is c.if-given.false).low)
+    ((own_few t).0, (own_few t).1, few, capped t, (t.kept.raised_is c.if-given.false).low)
 
 pub overflow_add-passed : goal.overflow_add-passed
 overflow_add-passed c = omega (arith, own_few c.requires.trying)

@@ -1,6 +1,10 @@
--- `search::Search::first_call` meets its contract: each call that is tried is marked (`trials_next`).
-use Rattle.search.proofs.Trials.{trials_next, first_none}
+-- `search::Search::first_call` meets its contract: each call that is tried is marked (`trials_next`), so the first that is free is the lowest (`first_free`).
+use Rattle.search.proofs.Trials.{trials_next, first_free, first_none}
 use Rattle.search.proofs.Search.first_call.Goals as goal
+
+pub returns-in_default-clause-first_is : goal.returns-in_default-clause-first_is
+returns-in_default-clause-first_is c =
+    let (lowest, few, _) = c.in-Some.ensures.steps in (first_free c.loop-j.invariant.0 _ lowest, c.in_default.ensures.trial_of, few)
 
 pub loop-j-preserved : goal.loop-j-preserved
 loop-j-preserved c =
