@@ -87,7 +87,14 @@ pub fn lot_costs(book: &[u8], lot: Lot) -> &[u8]
 pub fn pair_cost(book: &[u8], lot: Lot, call: Call) -> Result<Cost, Refusal>
     ensures { stated_cost result ≡ pair_cost book.now lot.0 call.0 }
 {
-    let read = Book::read(book)?;
+    let answer = read_book(book);
+    let Ok(counts) = answer else {
+        return Err(answer.unwrap_err());
+    };
+    let read = Book {
+        bytes: book,
+        counts,
+    };
     if read.counts.lots <= lot.0 || read.counts.calls <= call.0 {
         return Ok(Cost::Outside);
     }

@@ -18,7 +18,14 @@ pub fn find_order(book: &[u8], order: &mut [u8]) -> Result<usize, Refusal>
     ensures result_value { told result ≡ find_order book.now order.old }
     ensures order_after { order.new ≡ find_buffer book.now order.old }
 {
-    let book = Book::read(book)?;
+    let answer = book::read_book(book);
+    let Ok(counts) = answer else {
+        return Err(answer.unwrap_err());
+    };
+    let book = Book {
+        bytes: book,
+        counts,
+    };
     let length = 7 + 2 * book.pair_count();
     if order.len() < length {
         return Err(Refusal::BufferTooShort);

@@ -15,9 +15,17 @@ use book::Book;
 use specification::Refusal;
 
 // The check of an order: the refusals of the book, then of the order; the answer is its count of pairs.
+#[tactic(auto, using(crate::proofs::Agreeing::book_refused))]
 pub fn check_order(book: &[u8], order: &[u8]) -> Result<usize, Refusal>
     ensures { told result ≡ check_order book.now order.now }
 {
-    let read = Book::read(book)?;
+    let answer = book::read_book(book);
+    let Ok(counts) = answer else {
+        return Err(answer.unwrap_err());
+    };
+    let read = Book {
+        bytes: book,
+        counts,
+    };
     Ok(inner::check_by(&read, order)?.count)
 }

@@ -46,9 +46,15 @@ fn read<'a>(book: &'a [u8], amounts: &[u8]) -> Result<Book<'a>, Refusal>
     ensures counts { told_as (λ book. book.counts) result ≡ read_amounts book.now amounts.now }
     ensures bytes { IfOk result (λ read. read.bytes.now ≡ book.now) }
 {
-    let book = Book::read(book)?;
-    amounts::inner::read_of(book.counts, amounts)?;
-    Ok(book)
+    let answer = book::read_book(book);
+    let Ok(counts) = answer else {
+        return Err(answer.unwrap_err());
+    };
+    amounts::inner::read_of(counts, amounts)?;
+    Ok(Book {
+        bytes: book,
+        counts,
+    })
 }
 
 // Finds an order of the book's eligible pairs and runs it on the amounts: units and cost, with the units of each pair in the flow, or the

@@ -21,7 +21,14 @@ pub fn run_order(
     ensures result_value { stated_placed result ≡ run_order book.now order.now amounts.now flow.old }
     ensures flow_after { flow.new ≡ run_flow book.now order.now amounts.now flow.old }
 {
-    let book = Book::read(book)?;
+    let answer = book::read_book(book);
+    let Ok(counts) = answer else {
+        return Err(answer.unwrap_err());
+    };
+    let book = Book {
+        bytes: book,
+        counts,
+    };
     let pairs = order::inner::check_by(&book, order)?;
     amounts::inner::read_of(book.counts, amounts)?;
     if flow.len() < book.cells() {

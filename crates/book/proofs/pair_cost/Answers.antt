@@ -22,17 +22,17 @@ admits_is book counts e i j h k =
 
 pub slice_bounds-row-count : goal.slice_bounds-row-count
 slice_bounds-row-count c =
-    omega (arith, rw c.in_ok-read.ensures.bytes at c.row_at-at.ensures, row_fits _ _ (sym c.in_ok-read.ensures.counts) c.args.lot.0 c.if-read-lot.false)
+    omega (arith, c.row_at-at.ensures, row_fits _ _ (sym c.in-Ok.ensures) c.args.lot.0 c.if-read-lot.false)
 
 pub slice_bounds-row-start : goal.slice_bounds-row-start
 slice_bounds-row-start c =
-    omega (arith, rw c.in_ok-read.ensures.bytes at c.row_at-at.ensures, row_fits _ _ (sym c.in_ok-read.ensures.counts) c.args.lot.0 c.if-read-lot.false)
+    omega (arith, c.row_at-at.ensures, row_fits _ _ (sym c.in-Ok.ensures) c.args.lot.0 c.if-read-lot.false)
 
 pub returns-then-not-is_set : goal.returns-then-not-is_set
 returns-then-not-is_set c =
     let book = c.args.book.now in
-    let read = sym c.in_ok-read.ensures.counts in
-    let row = part_is_row book c.args.lot.0 (rw c.in_ok-read.ensures.bytes at c.row_at-at.ensures) in
+    let read = sym c.in-Ok.ensures in
+    let row = part_is_row book c.args.lot.0 c.row_at-at.ensures in
     let unset : (problem_of book).admits c.args.lot.0 c.args.call.0 ≡ false =
     admits_is book _ read _ _ c.if-read-lot.false c.if-read-call.false ∙ sym (rw (c.u32_at.ensures, row) at c.is_set.ensures) ∙ c.if-not-is_set.true in
     simp (read, lt-ltb _ _ c.if-read-lot.false, lt-ltb _ _ c.if-read-call.false, unset)
@@ -40,8 +40,8 @@ returns-then-not-is_set c =
 pub held_cost-cost-requires : goal.held_cost-cost-requires
 held_cost-cost-requires c =
     let book = c.args.book.now in
-    let read = sym c.in_ok-read.ensures.counts in
-    let row = part_is_row book c.args.lot.0 (rw c.in_ok-read.ensures.bytes at c.row_at-at.ensures) in
+    let read = sym c.in-Ok.ensures in
+    let row = part_is_row book c.args.lot.0 c.row_at-at.ensures in
     let set : (problem_of book).admits c.args.lot.0 c.args.call.0 ≡ true =
     admits_is book _ read _ _ c.if-read-lot.false c.if-read-call.false ∙ sym (rw (c.u32_at.ensures, row) at c.is_set.ensures) ∙ c.if-not-is_set.false in
     rw (c.version_of.ensures, rw row at c.cost_in.ensures)
@@ -51,8 +51,8 @@ pub returns : goal.returns
 unfolding costs_of
 returns c =
     let book = c.args.book.now in
-    let read = sym c.in_ok-read.ensures.counts in
-    let row = part_is_row book c.args.lot.0 (rw c.in_ok-read.ensures.bytes at c.row_at-at.ensures) in
+    let read = sym c.in-Ok.ensures in
+    let row = part_is_row book c.args.lot.0 c.row_at-at.ensures in
     let set : (problem_of book).admits c.args.lot.0 c.args.call.0 ≡ true =
     admits_is book _ read _ _ c.if-read-lot.false c.if-read-call.false ∙ sym (rw (c.u32_at.ensures, row) at c.is_set.ensures) ∙ c.if-not-is_set.false in
     let cost : to_z w64 (of_z w64 c.held_cost-cost.result) ≡ costs_of book c.args.lot.0 c.args.call.0 =

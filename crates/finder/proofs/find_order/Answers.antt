@@ -9,39 +9,33 @@ use Rattle.book.proofs.Readable.{read_is}
 use Rattle.finder.proofs.Books.{found_refused, found_short, refused_replies, search_replies}
 use Rattle.finder.proofs.find_order.Goals as goal
 
-pub returns-in_err-book-clause-result_value : goal.returns-in_err-book-clause-result_value
-returns-in_err-book-clause-result_value c =
-    let p = err_from_is_err_and c.from_residual.result c.from_residual.ensures.1 in
-    rw (p.1, p.2) (refused_replies _ _ _ _ (found_refused _ _ (sym c.in_err-book.ensures.counts))).0
+pub returns-in_default-clause-result_value : goal.returns-in_default-clause-result_value
+returns-in_default-clause-result_value c = (refused_replies _ _ _ _ (found_refused _ _ (sym (rw c.unwrap_err.ensures at c.read_book-answer.ensures)))).0
 
-pub returns-in_err-book-clause-order_after : goal.returns-in_err-book-clause-order_after
-returns-in_err-book-clause-order_after c = (refused_replies _ _ _ _ (found_refused _ _ (sym c.in_err-book.ensures.counts))).1
+pub returns-in_default-clause-order_after : goal.returns-in_default-clause-order_after
+returns-in_default-clause-order_after c = (refused_replies _ _ _ _ (found_refused _ _ (sym (rw c.unwrap_err.ensures at c.read_book-answer.ensures)))).1
 
 pub overflow_mul-length : goal.overflow_mul-length
-overflow_mul-length c = let b = c.in_ok-book.book in omega (arith, c.pair_count.ensures, size_within (read_is _ _ b.readable).known)
+overflow_mul-length c = omega (arith, c.pair_count.ensures, size_within (read_is _ _ (sym c.in-Ok.ensures)).known)
 
 pub overflow_add-length : goal.overflow_add-length
-overflow_add-length c = let b = c.in_ok-book.book in omega (arith, c.pair_count.ensures, size_within (read_is _ _ b.readable).known)
+overflow_add-length c = omega (arith, c.pair_count.ensures, size_within (read_is _ _ (sym c.in-Ok.ensures)).known)
 
 pub returns-then-order-length-clause-result_value : goal.returns-then-order-length-clause-result_value
 returns-then-order-length-clause-result_value c =
-    let count = rw c.in_ok-book.ensures.bytes at c.pair_count.ensures in
-    (refused_replies _ _ 17 [] (found_short _ _ (sym c.in_ok-book.ensures.counts) (omega (arith, count, c.if-order-length.true)))).0
+    (refused_replies _ _ 17 [] (found_short _ _ (sym c.in-Ok.ensures) (omega (arith, c.pair_count.ensures, c.if-order-length.true)))).0
 
 pub returns-then-order-length-clause-order_after : goal.returns-then-order-length-clause-order_after
 returns-then-order-length-clause-order_after c =
-    let count = rw c.in_ok-book.ensures.bytes at c.pair_count.ensures in
-    (refused_replies _ _ 17 [] (found_short _ _ (sym c.in_ok-book.ensures.counts) (omega (arith, count, c.if-order-length.true)))).1
+    (refused_replies _ _ 17 [] (found_short _ _ (sym c.in-Ok.ensures) (omega (arith, c.pair_count.ensures, c.if-order-length.true)))).1
 
 pub find_by-requires : goal.find_by-requires
 find_by-requires c = record { room = λ e. absurd (false≢true e); long_enough = omega (arith, c.pair_count.ensures, c.if-order-length.false) }
 
 pub returns-in_err-ok_or-clause-result_value : goal.returns-in_err-ok_or-clause-result_value
 returns-in_err-ok_or-clause-result_value c =
-    let count = rw c.in_ok-book.ensures.bytes at c.pair_count.ensures in
-    let orders = rw c.in_ok-book.ensures.bytes at c.find_by.ensures in
-    let p = err_from_is_err_and c.from_residual-in_err-ok_or.result c.from_residual-in_err-ok_or.ensures.1 in
-    let replies = search_replies _ _ _ (sym c.in_ok-book.ensures.counts) (omega (arith, count, c.if-order-length.false)) _ _ refl orders in
+    let p = err_from_is_err_and c.from_residual.result c.from_residual.ensures.1 in
+    let replies = search_replies _ _ _ (sym c.in-Ok.ensures) (omega (arith, c.pair_count.ensures, c.if-order-length.false)) _ _ refl c.find_by.ensures in
     let none = c.in_err-ok_or.ensures.ok_part in
     let value = rw none at c.in_err-ok_or.ensures.value in
     let is : p.0 ≡ Refusal.NoOrder = cc in
@@ -49,19 +43,13 @@ returns-in_err-ok_or-clause-result_value c =
 
 pub returns-in_err-ok_or-clause-order_after : goal.returns-in_err-ok_or-clause-order_after
 returns-in_err-ok_or-clause-order_after c =
-    let count = rw c.in_ok-book.ensures.bytes at c.pair_count.ensures in
-    let orders = rw c.in_ok-book.ensures.bytes at c.find_by.ensures in
-    (search_replies _ _ _ (sym c.in_ok-book.ensures.counts) (omega (arith, count, c.if-order-length.false)) _ _ refl orders).1
+    (search_replies _ _ _ (sym c.in-Ok.ensures) (omega (arith, c.pair_count.ensures, c.if-order-length.false)) _ _ refl c.find_by.ensures).1
 
 pub returns-clause-result_value : goal.returns-clause-result_value
 returns-clause-result_value c =
-    let count = rw c.in_ok-book.ensures.bytes at c.pair_count.ensures in
-    let orders = rw c.in_ok-book.ensures.bytes at c.find_by.ensures in
-    let replies = rw c.in_ok-ok_or.ensures.ok_part at (search_replies _ _ _ (sym c.in_ok-book.ensures.counts) (omega (arith, count, c.if-order-length.false)) _ _ refl orders) in
-    ap (λ (k : ℕ). gives (7 + 2 * k)) count ∙ replies.0
+    let replies = rw c.in_ok-ok_or.ensures.ok_part at (search_replies _ _ _ (sym c.in-Ok.ensures) (omega (arith, c.pair_count.ensures, c.if-order-length.false)) _ _ refl c.find_by.ensures) in
+    ap (λ (k : ℕ). gives (7 + 2 * k)) c.pair_count.ensures ∙ replies.0
 
 pub returns-clause-order_after : goal.returns-clause-order_after
 returns-clause-order_after c =
-    let count = rw c.in_ok-book.ensures.bytes at c.pair_count.ensures in
-    let orders = rw c.in_ok-book.ensures.bytes at c.find_by.ensures in
-    (search_replies _ _ _ (sym c.in_ok-book.ensures.counts) (omega (arith, count, c.if-order-length.false)) _ _ refl orders).1
+    (search_replies _ _ _ (sym c.in-Ok.ensures) (omega (arith, c.pair_count.ensures, c.if-order-length.false)) _ _ refl c.find_by.ensures).1

@@ -9,82 +9,75 @@ use Rattle.remaining.proofs.Loading.{sizes_within, can_load, too_short, read_wit
 use Rattle.run.proofs.Supplied.{accepted, as_specified}
 use Rattle.run.proofs.run_order.Goals as goal
 
-pub returns-in_err-book-clause-result_value : goal.returns-in_err-book-clause-result_value
+pub returns-in_default-clause-result_value : goal.returns-in_default-clause-result_value
 unfolding run_order check_order
-returns-in_err-book-clause-result_value c =
-    let p = err_from_is_err_and c.from_residual.result c.from_residual.ensures.1 in
-    rw (p.1, p.2) (simp (sym c.in_err-book.ensures.counts) refl)
+returns-in_default-clause-result_value c = simp (sym (rw c.unwrap_err.ensures at c.read_book-answer.ensures)) refl
 
-pub returns-in_err-book-clause-flow_after : goal.returns-in_err-book-clause-flow_after
+pub returns-in_default-clause-flow_after : goal.returns-in_default-clause-flow_after
 unfolding run_order run_flow check_order
-returns-in_err-book-clause-flow_after c = simp (sym c.in_err-book.ensures.counts) refl
+returns-in_default-clause-flow_after c = simp (sym (rw c.unwrap_err.ensures at c.read_book-answer.ensures)) refl
 
 pub returns-in_err-pairs-clause-result_value : goal.returns-in_err-pairs-clause-result_value
 unfolding run_order
 returns-in_err-pairs-clause-result_value c =
-    let p = err_from_is_err_and c.from_residual-in_err-pairs.result c.from_residual-in_err-pairs.ensures.1 in
-    rw (p.1, p.2) (simp (sym (rw c.in_ok-book.ensures.bytes at c.in_err-pairs.ensures.count)) refl)
+    let p = err_from_is_err_and c.from_residual.result c.from_residual.ensures.1 in
+    rw (p.1, p.2) (simp (sym c.in_err-pairs.ensures.count) refl)
 
 pub returns-in_err-pairs-clause-flow_after : goal.returns-in_err-pairs-clause-flow_after
 unfolding run_order run_flow
-returns-in_err-pairs-clause-flow_after c = simp (sym (rw c.in_ok-book.ensures.bytes at c.in_err-pairs.ensures.count)) refl
+returns-in_err-pairs-clause-flow_after c = simp (sym c.in_err-pairs.ensures.count) refl
 
 pub read_of-requires : goal.read_of-requires
-read_of-requires c = sizes_within _ _ (sym c.in_ok-book.ensures.counts)
+read_of-requires c = sizes_within _ _ (sym c.in-Ok.ensures)
 
 pub returns-in_err-read_of-clause-result_value : goal.returns-in_err-read_of-clause-result_value
 unfolding run_order read_amounts
 returns-in_err-read_of-clause-result_value c =
     let p = err_from_is_err_and c.from_residual-in_err-read_of.result c.from_residual-in_err-read_of.ensures.1 in
-    let passes = sym (rw c.in_ok-book.ensures.bytes at c.in_ok-pairs.ensures.count) in
-    rw (p.1, p.2) (simp (passes, sym c.in_ok-book.ensures.counts, sym c.in_err-read_of.ensures) refl)
+    rw (p.1, p.2) (simp (sym c.in_ok-pairs.ensures.count, sym c.in-Ok.ensures, sym c.in_err-read_of.ensures) refl)
 
 pub returns-in_err-read_of-clause-flow_after : goal.returns-in_err-read_of-clause-flow_after
 unfolding run_order run_flow read_amounts
-returns-in_err-read_of-clause-flow_after c =
-    let passes = sym (rw c.in_ok-book.ensures.bytes at c.in_ok-pairs.ensures.count) in
-    simp (passes, sym c.in_ok-book.ensures.counts, sym c.in_err-read_of.ensures) refl
+returns-in_err-read_of-clause-flow_after c = simp (sym c.in_ok-pairs.ensures.count, sym c.in-Ok.ensures, sym c.in_err-read_of.ensures) refl
 
 pub returns-then-flow-cells-clause-result_value : goal.returns-then-flow-cells-clause-result_value
 unfolding run_order
 returns-then-flow-cells-clause-result_value c =
-    let reads = sym c.in_ok-book.ensures.counts in
-    let passes = sym (rw c.in_ok-book.ensures.bytes at c.in_ok-pairs.ensures.count) in
+    let reads = sym c.in-Ok.ensures in
     let read = read_with c.args.book.now _ reads c.args.amounts.now _ (sym c.in_ok-read_of.ensures) in
-    simp (passes, read, too_short _ _ reads c.args.flow.now (rw c.cells.ensures at c.if-flow-cells.true)) refl
+    simp (sym c.in_ok-pairs.ensures.count, read, too_short _ _ reads c.args.flow.now (rw c.cells.ensures at c.if-flow-cells.true)) refl
 
 pub returns-then-flow-cells-clause-flow_after : goal.returns-then-flow-cells-clause-flow_after
 unfolding run_order run_flow
 returns-then-flow-cells-clause-flow_after c =
-    let reads = sym c.in_ok-book.ensures.counts in
-    let passes = sym (rw c.in_ok-book.ensures.bytes at c.in_ok-pairs.ensures.count) in
+    let reads = sym c.in-Ok.ensures in
     let read = read_with c.args.book.now _ reads c.args.amounts.now _ (sym c.in_ok-read_of.ensures) in
-    simp (passes, read, too_short _ _ reads c.args.flow.now (rw c.cells.ensures at c.if-flow-cells.true)) refl
+    simp (sym c.in_ok-pairs.ensures.count, read, too_short _ _ reads c.args.flow.now (rw c.cells.ensures at c.if-flow-cells.true)) refl
 
 pub load-remaining-requires : goal.load-remaining-requires
 load-remaining-requires c =
-    let reads = sym c.in_ok-book.ensures.counts in
+    let reads = sym c.in-Ok.ensures in
     let read = read_with c.args.book.now _ reads c.args.amounts.now _ (sym c.in_ok-read_of.ensures) in
     let (lots, calls, reserved) = can_load _ _ reads _ read in
     (omega arith, (omega arith, lots, calls, reserved))
 
 pub run_by-requires : goal.run_by-requires
 run_by-requires c =
-    let b = c.in_ok-book.book in
+    let reads = sym c.in-Ok.ensures in
     let passes = sym (rw (← c.in_ok-pairs.ensures.order) at c.in_ok-pairs.ensures.count) in
-    let read = read_with b.bytes.now _ b.readable c.args.amounts.now _ (sym c.in_ok-read_of.ensures) in
-    accepted _ _ b.readable _ _ c.args.flow.now _ passes read (rw c.cells.ensures at c.if-flow-cells.false) _ c.load-remaining.ensures
+    let read = read_with c.args.book.now _ reads c.args.amounts.now _ (sym c.in_ok-read_of.ensures) in
+    accepted _ _ reads _ _ c.args.flow.now _ passes read (rw c.cells.ensures at c.if-flow-cells.false) _ c.load-remaining.ensures
 
 pub returns-clause-result_value : goal.returns-clause-result_value
 returns-clause-result_value c =
-    let b = c.in_ok-book.book in
+    let reads = sym c.in-Ok.ensures in
     let passes = sym (rw (← c.in_ok-pairs.ensures.order) at c.in_ok-pairs.ensures.count) in
-    let read = read_with b.bytes.now _ b.readable c.args.amounts.now _ (sym c.in_ok-read_of.ensures) in
-    rw (← c.in_ok-book.ensures.bytes, ← c.in_ok-pairs.ensures.order) (as_specified _ _ b.readable _ _ c.args.flow.now _ passes read (rw c.cells.ensures at c.if-flow-cells.false) _ c.load-remaining.ensures _ _ c.run_by.ensures).0
+    let read = read_with c.args.book.now _ reads c.args.amounts.now _ (sym c.in_ok-read_of.ensures) in
+    rw (← c.in_ok-pairs.ensures.order) (as_specified _ _ reads _ _ c.args.flow.now _ passes read (rw c.cells.ensures at c.if-flow-cells.false) _ c.load-remaining.ensures _ _ c.run_by.ensures).0
 
 pub returns-clause-flow_after : goal.returns-clause-flow_after
 returns-clause-flow_after c =
-    let b = c.in_ok-book.book in
+    let reads = sym c.in-Ok.ensures in
     let passes = sym (rw (← c.in_ok-pairs.ensures.order) at c.in_ok-pairs.ensures.count) in
-    let read = read_with b.bytes.now _ b.readable c.args.amounts.now _ (sym c.in_ok-read_of.ensures) in
-    rw (← c.in_ok-book.ensures.bytes, ← c.in_ok-pairs.ensures.order) (as_specified _ _ b.readable _ _ c.args.flow.now _ passes read (rw c.cells.ensures at c.if-flow-cells.false) _ c.load-remaining.ensures _ _ c.run_by.ensures).1
+    let read = read_with c.args.book.now _ reads c.args.amounts.now _ (sym c.in_ok-read_of.ensures) in
+    rw (← c.in_ok-pairs.ensures.order) (as_specified _ _ reads _ _ c.args.flow.now _ passes read (rw c.cells.ensures at c.if-flow-cells.false) _ c.load-remaining.ensures _ _ c.run_by.ensures).1
