@@ -15,6 +15,7 @@ ghost use Rattle.placer_c.specs.Stretches.{stretch_of};
 ghost use Rattle.placer_c.specs.Version.{version};
 
 use answers::Answer;
+use book::Book;
 use specification::{Call, Lot};
 
 // A stretch of the caller's book, in bytes.
@@ -39,13 +40,18 @@ pub extern "C" fn placer_lot_costs(book: &[u8], lot: usize) -> Stretch
     ensures value { result ≡ stretch_of book.now lot }
     ensures book_value { take result.len (drop result.start book.now) ≡ lot_costs book.now lot }
 {
-    let costs = book::inner::costs_range(book, Lot(lot));
+    let costs = book::lot_costs(book, Lot(lot));
     let len = costs.len();
     if len == 0 {
         return Stretch { start: 0, len };
     }
+    // Costs are of a lot of a readable book, so the book is not read again.
+    let read = Book {
+        bytes: book,
+        counts: files::counts_at(book),
+    };
     Stretch {
-        start: costs.start,
+        start: read.row_at(Lot(lot)) + 4,
         len,
     }
 }
