@@ -23,16 +23,20 @@ const TWO_BY_THREE: [u8; 23] =
 const REBATE: [u8; 23] =
     *b"CLB\x02\x00\x01\x03\x07\x00\x00\x00\xfd\xff\xff\xff\x00\x00\x00\x00\x07\x00\x00\x00";
 
-// A file of a version: the opening with n and m, then these numbers, and then bytes of 0.
-fn file_of(mark: &[u8; 3], version: u16, counts: [u8; 2], numbers: &[u32]) -> [u8; 4300] {
-    let mut file = [0u8; 4300];
-    files::write_opening(&mut file, mark, u16::from_le_bytes(counts));
+// Writes a file of a version over bytes of 0: the opening with n and m, then these numbers.
+fn write_file(
+    file: &mut [u8; 4300],
+    mark: &[u8; 3],
+    version: u16,
+    counts: [u8; 2],
+    numbers: &[u32],
+) {
+    files::write_opening(file, mark, u16::from_le_bytes(counts));
     file[3..5].copy_from_slice(&version.to_le_bytes());
     let (places, _) = file[7..].as_chunks_mut::<4>();
     for (place, number) in places.iter_mut().zip(numbers) {
         *place = number.to_le_bytes();
     }
-    file
 }
 
 // The numbers of the largest book: each of 32 lots is eligible for each of 32 calls, at cost 0.
@@ -62,7 +66,8 @@ fn book(
     len: usize,
     numbers: &[u32],
 ) -> io::Result<()> {
-    let file = file_of(&files::BOOK_MARK, version, counts, numbers);
+    let mut file = [0u8; 4300];
+    write_file(&mut file, &files::BOOK_MARK, version, counts, numbers);
     let file = file.get(..len).unwrap_or(&file);
     case(rt, label, book::read_book(file))
 }
@@ -89,7 +94,8 @@ fn amounts(
     len: usize,
     numbers: &[u32],
 ) -> io::Result<()> {
-    let file = file_of(&files::AMOUNTS_MARK, version, counts, numbers);
+    let mut file = [0u8; 4300];
+    write_file(&mut file, &files::AMOUNTS_MARK, version, counts, numbers);
     let file = file.get(..len).unwrap_or(&file);
     case(rt, label, amounts::read_amounts(book, file))
 }
@@ -115,7 +121,14 @@ fn pair(rt: &impl Print, label: &str, book: &[u8], lot: Lot, call: Call) -> io::
 
 // An amount of a file of 1 lot and 1 call with the largest amounts.
 fn amount(rt: &impl Print, label: &str, k: usize) -> io::Result<()> {
-    let file = file_of(&files::AMOUNTS_MARK, 1, [1, 1], &[1000000000, 1000000000]);
+    let mut file = [0u8; 4300];
+    write_file(
+        &mut file,
+        &files::AMOUNTS_MARK,
+        1,
+        [1, 1],
+        &[1000000000, 1000000000],
+    );
     println!(rt;
         "{label} AMOUNT {}",
         amounts::inner::amount_at(&file[..15], k)

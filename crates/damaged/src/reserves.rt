@@ -47,7 +47,8 @@ pub fn lengths(rt: &impl Print) -> io::Result<()> {
 }
 
 pub fn largest(rt: &impl Print) -> io::Result<()> {
-    let file = super::file_of(&files::BOOK_MARK, 1, [32, 32], &super::largest());
+    let mut file = [0u8; 4300];
+    super::write_file(&mut file, &files::BOOK_MARK, 1, [32, 32], &super::largest());
     let book = file.get(..4231).unwrap_or(&file);
     amounts(rt, "P99", book, 2, [32, 32], 263, &[])?;
     amounts(rt, "P99", book, 2, [32, 32], 390, &[])?;

@@ -77,12 +77,12 @@ fn show_variations(rt: &impl Print) -> io::Result<()> {
     )
 }
 
-// An order file of 65,535 pairs: the four of F4, then one whose lot and call are given, then (0, 0).
-fn longest(fifth: u8) -> [u8; 131077] {
+// One case: an order file of 65,535 pairs, the four of F4, then one whose lot and call are given, then (0, 0).
+fn show_longest(rt: &impl Print, label: &str, book: &[u8], fifth: u8) -> io::Result<()> {
     let mut file = [0u8; 131077];
     files::write_opening(&mut file, &files::ORDER_MARK, 65535);
     file[7..17].copy_from_slice(&[0, 1, 1, 0, 0, 0, 1, 1, fifth, fifth]);
-    file
+    show(rt, label, book, &file)
 }
 
 // A book of 15 lots and 20 calls, all eligible at cost 0.
@@ -135,13 +135,8 @@ fn show_lengths(rt: &impl Print) -> io::Result<()> {
         b"CLO\x01\x00\x01\x00\xff\xff\x00",
     )?;
     show(rt, "65,535 pairs, none there", &f1, b"CLO\x01\x00\xff\xff")?;
-    show(rt, "65,535 pairs, (0, 0) after all four", &f1, &longest(0))?;
-    show(
-        rt,
-        "65,535 pairs, (255, 255) after all four",
-        &f1,
-        &longest(255),
-    )
+    show_longest(rt, "65,535 pairs, (0, 0) after all four", &f1, 0)?;
+    show_longest(rt, "65,535 pairs, (255, 255) after all four", &f1, 255)
 }
 
 // Openings, of the order and of the book before it.

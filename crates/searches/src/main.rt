@@ -75,26 +75,22 @@ fn fill_row(row: &mut [u8; 132], lot: usize) {
 }
 
 // 32 by 32: the pairs of lots 0 to 16 are not free, by the very last test of each, until lots 17 to 30 are used up. A finder that starts
-// again from the first pair at each turn makes 184 million tests. The first lots, so many, have no pairs.
-fn long_search(first: usize) -> [u8; 4231]
+// again from the first pair at each turn makes 184 million tests. The first lots, so many, have no pairs. Written over bytes of 0.
+fn fill_long_search(book: &mut [u8; 4231], first: usize)
     requires { first ≤ 32 }
 {
-    let mut book = [0u8; 4231];
-    files::write_opening(&mut book, &files::BOOK_MARK, u16::from_le_bytes([32, 32]));
+    files::write_opening(book, &files::BOOK_MARK, u16::from_le_bytes([32, 32]));
     let (rows, _) = book[7 + 4 * first..].as_chunks_mut::<132>();
     for (row, lot) in rows.iter_mut().zip(first..32) {
         fill_row(row, lot);
     }
-    book
 }
 
-// The same without its last pair, (31, 31), in the first 4,227 bytes: corners decide here too.
-fn long_search_with_gap() -> [u8; 4231] {
-    let mut book = long_search(0);
+// Takes the last pair, (31, 31), from a book of all 32 lots, which is then its first 4,227 bytes: corners decide here too.
+fn make_gap(book: &mut [u8; 4231]) {
     let (rows, _) = book[7..].as_chunks_mut::<132>();
     // The highest byte of the last lot's word.
     rows[31][3] = 127;
-    book
 }
 
 // costs 1 2 / 3 5
@@ -195,9 +191,14 @@ fn show_long(rt: &impl Print, book: &[u8; 4231], length: usize) -> io::Result<()
 // By corners, without and with a gap; and where more pairs are missing than ranks are tried with, so that lots are asked: the first two
 // lots have none.
 fn show_long_searches(rt: &impl Print) -> io::Result<()> {
-    show_long(rt, &long_search(0), 4231)?;
-    show_long(rt, &long_search_with_gap(), 4227)?;
-    show_long(rt, &long_search(2), 3975)
+    let mut book = [0u8; 4231];
+    fill_long_search(&mut book, 0);
+    show_long(rt, &book, 4231)?;
+    make_gap(&mut book);
+    show_long(rt, &book, 4227)?;
+    book = [0u8; 4231];
+    fill_long_search(&mut book, 2);
+    show_long(rt, &book, 3975)
 }
 
 fn main(rt: HostRuntime) -> io::Result<()> {
